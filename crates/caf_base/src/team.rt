@@ -1,0 +1,30 @@
+ghost use Rattle.std.specs.Prelude.{◌≡◌, ◌↔◌, IsTrue};
+
+use crate::Sequence;
+
+/// A team of images, after the teams of Coarray Fortran 2.0 (Mellor-Crummey, Adhianto, Scherer and Jin, PGAS 2009).
+#[derive(Debug, Drop, PartialEq, Eq)]
+pub struct Team {
+    /// The splits that led to the team from `team_world`, which has the empty path: the number of each split, and
+    /// the colour.
+    pub path: Sequence<(u32, i64)>,
+    /// The image numbers of the members. The place of a member, from 0, is its rank.
+    pub members: Sequence<u32>,
+}
+
+/// One finish of a team, by its number from 1 among the team's finishes; number 0 of `team_world` is the body of
+/// the program.
+#[derive(Debug, Drop, PartialEq, Eq)]
+pub struct FinishRef {
+    pub team: Team,
+    pub number: u32,
+}
+
+impl FinishRef {
+    /// Whether the two name one finish.
+    pub fn is_same(&self, other: &FinishRef) -> bool
+        ensures { IsTrue result ↔ (self.now ≡ other.now) }
+    {
+        self == other
+    }
+}
