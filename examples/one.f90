@@ -1,0 +1,3 @@
+program x
+print *, 2+3*4
+end program
