@@ -1,4 +1,4 @@
--- Finishes that `==` takes for one are one.
+-- Finishes that `==` takes for equal are equal.
 use Rattle.std.proofs.Common.{◌≡◌, ℕ, ℤ, Bool, ◌&&◌, nat_eq, ap, refl, ◌∙◌}
 use Rattle.std.specs.Bool.{Decides}
 use Rattle.std.specs.Ordering.{int_eq}

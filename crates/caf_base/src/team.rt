@@ -21,7 +21,7 @@ pub struct FinishRef {
 }
 
 impl FinishRef {
-    /// Whether the two name one finish.
+    /// Whether the two are equal: one team, with one path and the same members, and one number.
     pub fn is_same(&self, other: &FinishRef) -> bool
         ensures { IsTrue result ↔ (self.now ≡ other.now) }
     {

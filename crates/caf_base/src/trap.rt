@@ -22,7 +22,7 @@ pub enum Trap {
     Operations,
     /// A `do` with step 0.
     Step,
-    /// A post of an event that has 65,535 posts.
+    /// A post of an event that has 65,535 posts or more.
     Posts,
     /// A team that is unset.
     Team,

@@ -16,7 +16,7 @@ pub trait Host {
     /// How often a save failed.
     ghost save_faults: { Self → ℕ };
 
-    /// The bytes of a name, of which there may be at most `limit`. No more than that is held in memory.
+    /// The bytes of a name, of which there may be at most `limit`.
     fn load(&mut self, alloc: Global, name: &str, limit: usize) -> Result<Vec<u8>, LoadFail>
         ensures bytes { IfOk result (λ bytes. Has (texts self.old) name.now (λ held. bytes.items ≡ held)) }
         ensures within { IfOk result (λ bytes. length bytes.items ≤ limit) }

@@ -5,3 +5,4 @@ pub mod Bounds
 pub mod OneStep
 pub mod Requests
 pub mod Taken
+pub mod Given

@@ -7,8 +7,8 @@ use Rattle.caf_journal.specs.declared.entry.Entry.{Entry}
 use Rattle.caf_report.specs.Report.{report_text}
 use Rattle.caf_tree.specs.declared.tree.Unit.{Unit as Program}
 use Rattle.caf_outside.specs.Texts.{Texts, Has}
-use Rattle.caf_top.specs.declared.answer.Kind.{Kind}
-use Rattle.caf_top.specs.declared.answer.Kind.TheVariants.{Run, Refused, Unreadable, TooLong}
+use Rattle.caf_top.specs.declared.answer.Due.{Due}
+use Rattle.caf_top.specs.declared.answer.Due.TheVariants.{Run, Refused, Unreadable, TooLong}
 use Rattle.caf_top.specs.Words.{asked, usage}
 use Rattle.caf_top.specs.FirstForm.{seen}
 use Rattle.caf_top.specs.Machine.{State, state, ending, summary}
@@ -18,10 +18,23 @@ use Rattle.caf_top.specs.Waves.{is_legal, one_step}
 abbrev pub limit : ℕ
 limit = 1048576
 
--- a text within the limit was loaded, the one under the name where the host tells it, and it has P
-pub record IsLoaded (told : Option Texts) (name : List ℕ) (P : List ℕ → Type 0) : Type 0 where
+-- what a call saw of the host: its texts, where they are told, the name that was asked for, and how often loads of that
+-- name had failed before the call and had after it
+pub record Seen : Type 0 where
+  pub texts : Option Texts
+  pub name : List ℕ
+  pub failed_before : ℕ
+  pub failed_now : ℕ
+
+-- of a host with these texts and these counts of failed loads before and after a call, for this name
+abbrev pub seen_of : Option Texts → (List ℕ → ℕ) → (List ℕ → ℕ) → List ℕ → Seen
+seen_of texts before now name = record { texts = texts; name = name; failed_before = before name; failed_now = now name }
+
+-- no load of the name failed, and a text within the limit has P: the one under the name, where the host tells its texts
+pub record IsLoaded (host : Seen) (P : List ℕ → Type 0) : Type 0 where
+  pub stood : host.failed_now ≡ host.failed_before
   pub bytes : List ℕ
-  pub held : Has told name (λ held. held ≡ bytes)
+  pub held : Has host.texts host.name (λ held. bytes ≡ held)
   pub within : length bytes ≤ limit
   pub has : P bytes
 
@@ -49,23 +62,26 @@ pub record Refuses (bytes : List ℕ) (journal : List Entry) (text : List ℕ) :
   pub no_run : journal ≡ []
   pub line : text ≡ codes "refused: line 1: not yet\n"
 
-abbrev pub IsReport : Option Texts → List ℕ → List Entry → List ℕ → Type 0
-IsReport told name journal text = IsLoaded told name (λ bytes. Reports bytes journal text)
+-- the text that was loaded is a program, and this is the report of its run
+abbrev pub IsReport : Seen → List Entry → List ℕ → Type 0
+IsReport host journal text = IsLoaded host (λ bytes. Reports bytes journal text)
 
-abbrev pub IsRefusal : Option Texts → List ℕ → List Entry → List ℕ → Type 0
-IsRefusal told name journal text = IsLoaded told name (λ bytes. Refuses bytes journal text)
+-- the text that was loaded is no program, and this is the line on it
+abbrev pub IsRefusal : Seen → List Entry → List ℕ → Type 0
+IsRefusal host journal text = IsLoaded host (λ bytes. Refuses bytes journal text)
 
--- a load of the name failed in this call
-pub record IsUnreadable (before now : ℕ) (name : List ℕ) (journal : List Entry) (text : List ℕ) : Type 0 where
-  pub rose : before < now
+-- a load of the name failed
+pub record IsUnreadable (host : Seen) (journal : List Entry) (text : List ℕ) : Type 0 where
+  pub rose : host.failed_before < host.failed_now
   pub no_run : journal ≡ []
-  pub line : text ≡ codes "cannot read " ++ name ++ codes "\n"
+  pub line : text ≡ codes "cannot read " ++ host.name ++ codes "\n"
 
--- the text under the name is longer than the limit
-pub record IsTooLong (told : Option Texts) (name : List ℕ) (journal : List Entry) (text : List ℕ) : Type 0 where
-  pub long : Has told name (λ held. limit < length held)
+-- no load of the name failed, and the text under it is longer than the limit
+pub record IsTooLong (host : Seen) (journal : List Entry) (text : List ℕ) : Type 0 where
+  pub stood : host.failed_now ≡ host.failed_before
+  pub long : Has host.texts host.name (λ held. limit < length held)
   pub no_run : journal ≡ []
-  pub line : text ≡ codes "too long " ++ name ++ codes "\n"
+  pub line : text ≡ codes "too long " ++ host.name ++ codes "\n"
 
 -- the words ask for nothing that is known
 pub record IsUsage (words : List (List ℕ)) (journal : List Entry) (text : List ℕ) : Type 0 where
@@ -74,14 +90,14 @@ pub record IsUsage (words : List (List ℕ)) (journal : List Entry) (text : List
   pub lines : text ≡ usage
 
 -- what is due to be written, whatever the sink does
-abbrev pub IsDue : Option Texts → ℕ → ℕ → List ℕ → List Entry → Kind → List ℕ → Type 0
-IsDue told before now name journal Run text = IsReport told name journal text
-IsDue told before now name journal Refused text = IsRefusal told name journal text
-IsDue told before now name journal Unreadable text = IsUnreadable before now name journal text
-IsDue told before now name journal TooLong text = IsTooLong told name journal text
+abbrev pub IsDue : Seen → List Entry → Due → List ℕ → Type 0
+IsDue host journal Run text = IsReport host journal text
+IsDue host journal Refused text = IsRefusal host journal text
+IsDue host journal Unreadable text = IsUnreadable host journal text
+IsDue host journal TooLong text = IsTooLong host journal text
 
 -- what a loaded text gives
-abbrev pub IsGiven : List ℕ → List Entry → Kind → List ℕ → Type 0
+abbrev pub IsGiven : List ℕ → List Entry → Due → List ℕ → Type 0
 IsGiven bytes journal Run text = Reports bytes journal text
 IsGiven bytes journal Refused text = Refuses bytes journal text
 IsGiven bytes journal Unreadable text = ⊥
@@ -96,10 +112,10 @@ abbrev pub TookPart : Option (List ℕ) → Option (List ℕ) → (List ℕ → 
 TookPart old new P = (text : List ℕ) × (n : ℕ) × P text × (n < length text) × Appends old new (take n text)
 
 -- the sink took a part of what was due, and not all of it
-abbrev pub TookPartDue : Option (List ℕ) → Option (List ℕ) → Option Texts → ℕ → ℕ → List ℕ → List Entry → Type 0
-TookPartDue old new told before now name journal = (kind : Kind) × TookPart old new (IsDue told before now name journal kind)
+abbrev pub TookPartDue : Option (List ℕ) → Option (List ℕ) → Seen → List Entry → Type 0
+TookPartDue old new host journal = (due : Due) × TookPart old new (IsDue host journal due)
 
-abbrev pub status_of : Kind → ℕ
+abbrev pub status_of : Due → ℕ
 status_of Run = 0
 status_of Refused = 3
 status_of Unreadable = 7

@@ -37,7 +37,7 @@ share_from share (other ∷ rest) = share_from share rest
 abbrev pub share : List Entry → ℤ
 share = share_from (pos 0)
 
--- whether the last result was 0, so that the finish has ended
+-- whether the last result was 0, so that the finish has ended; in a legal journal no other result follows one of 0
 abbrev pub has_ended : List Entry → Bool
 has_ended journal = option_map_or (λ sum. int_eq sum (pos 0)) (last_result journal) false
 

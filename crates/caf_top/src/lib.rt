@@ -11,6 +11,8 @@ mod output;
 mod run;
 mod serial;
 
+pub use caf_base::Four;
+pub use caf_journal::Entry;
 pub use ended::Ended;
 pub use main_call::caf_main;
 pub use order::Order;
