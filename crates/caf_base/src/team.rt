@@ -1,4 +1,5 @@
 ghost use Rattle.std.specs.Prelude.{◌≡◌, ◌↔◌, IsTrue};
+ghost use Rattle.caf_base.specs.FinishRef.{same_finish};
 
 use crate::Sequence;
 
@@ -23,7 +24,8 @@ pub struct FinishRef {
 impl FinishRef {
     /// Whether the two name one finish.
     pub fn is_same(&self, other: &FinishRef) -> bool
-        ensures { IsTrue result ↔ (self.now ≡ other.now) }
+        ensures same { IsTrue result ↔ (self.now ≡ other.now) }
+        ensures test { result ≡ same_finish self.now other.now }
     {
         self == other
     }
