@@ -11,3 +11,6 @@ pub use caf_epochs::Four;
 pub use caf_reduce::Given;
 pub use counted::Counted;
 pub use desk::FinishDesk;
+
+#[cfg(test)]
+mod tests;
