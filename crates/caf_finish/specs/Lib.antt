@@ -1,0 +1,4 @@
+pub mod Account
+pub mod Progress
+pub mod Kept
+pub mod Desk
