@@ -1,5 +1,5 @@
 -- Each line is read as the entry whose line it is, and as no other.
-use Rattle.std.proofs.Common.{◌≡◌, ℕ, ◌<◌, ◌≤◌, ◌^◌, List, [], ◌∷◌, ◌++◌, length, map, Option, Some, None, ℤ, pos, negsuc, refl, sym, ap, subst, ◌∙◌, append_assoc, arith}
+use Rattle.std.proofs.Common.{◌≡◌, ℕ, ◌<◌, ◌^◌, List, ◌∷◌, ◌++◌, map, Option, Some, pos, negsuc, refl, ap, subst, ◌∙◌, arith}
 use Rattle.std.specs.Prelude.{codes}
 use Rattle.std.specs.Fmt.{decimal, signed_decimal}
 use Rattle.std.specs.List.{join_with_byte}
@@ -11,10 +11,10 @@ use Rattle.caf_journal.specs.declared.entry.Entry.TheVariants as entry
 use Rattle.caf_journal.specs.declared.fields.Kind.{Kind}
 use Rattle.caf_journal.specs.declared.fields.Kind.TheVariants as kind
 use Rattle.caf_journal.specs.declared.fields.TheConstants.{KINDS}
-use Rattle.caf_journal.specs.Trace.{stage_word, operation_word, count_words, words_of, line_of, line_text, IsImage, IsCount, IsOperation, is_counted, HasLine}
-use Rattle.caf_journal.specs.Reading.{◌>>=◌, cut, number_below, image_of, count_of, operation_of, value_at, stage_of, counted_stage_of, number_before, image_before, operation_before, four_of, step_of, touch_of, part_of, leave_of, ack_of, return_of, offer_of, contribute_of, relay_of, result_of, fields_of, entry_of}
-use Rattle.caf_journal.proofs.Cutting.{Lacks, cut-append, cut_is}
-use Rattle.caf_journal.proofs.Words.{glue, bind_some, some_is, Reads, numbers, images, counts, operations, stages, counted_stages, value_at_is, number_before_is, number_before-append, operation_before_is, operation_before-append, operation_lacks, stage_lacks, decimal_lacks, joined_lacks, Lacks-tested}
+use Rattle.caf_journal.specs.Trace.{stage_word, operation_word, count_words, line_of, IsImage, IsCount, IsOperation, HasLine}
+use Rattle.caf_journal.specs.Reading.{◌>>=◌, cut, number_below, image_of, count_of, value_at, number_before, image_before, operation_before, four_of, step_of, touch_of, part_of, leave_of, ack_of, return_of, offer_of, contribute_of, relay_of, result_of, fields_of, entry_of}
+use Rattle.caf_journal.proofs.Cutting.{cut_is}
+use Rattle.caf_journal.proofs.Words.{glue, bind_some, some_is, Reads, numbers, images, counts, operations, stages, counted_stages, value_at_is, number_before_is, number_before-append, operation_before_is, operation_before-append}
 
 -- the four counts of a contribution
 abbrev four_text : Four → List ℕ

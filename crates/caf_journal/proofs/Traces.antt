@@ -1,19 +1,24 @@
 -- A text is the trace of one journal at most, or has one first bad line.
-use Rattle.std.proofs.Common.{◌≡◌, ◌≢◌, ℕ, ℤ, pos, negsuc, ◌+◌, ◌<◌, ◌≤◌, ◌^◌, List, [], ◌∷◌, ◌++◌, length, All, Option, Some, None, Result, Ok, Err, refl, sym, ap, subst, ◌∙◌, append_assoc, arith, inl, inr}
-use Rattle.std.specs.Prelude.{IfOk, IfErr, IsOkAnd, IsErrAnd, MatchResult}
+use Rattle.std.proofs.Common.{◌≡◌, ◌≢◌, ℕ, pos, negsuc, ◌+◌, ◌*◌, ◌≤◌, List, [], ◌∷◌, ◌++◌, length, Some, None, Result, Ok, Err, refl, sym, ap, subst, ◌∙◌, append_assoc, arith, inl, inr}
+use Rattle.std.specs.Prelude.{IfOk, IfErr, IsOkAnd}
 use Rattle.std.specs.Global.{Vec}
-use Rattle.std.specs.List.{AllByRecursion, flat_map}
+use Rattle.std.specs.List.{AllByRecursion, join_with_byte}
 use Rattle.std.proofs.lemmas.Bool.{cases_lt}
+use Rattle.std.specs.Fmt.{decimal}
+use Rattle.std.proofs.lemmas.Fmt.{length-decimal-le}
 use Rattle.std.proofs.lemmas.List.{append-nil, length-append}
-use Rattle.std.proofs.lemmas.List.Concat.{flat_map-append, flat_map-cons}
+use Rattle.std.proofs.lemmas.List.Concat.{flat_map-append}
 use Rattle.std.proofs.lemmas.List.Elements.{All-from_recursion, recursion_from_All, All-contains, Contains-push, All-push}
 use Rattle.std.proofs.lemmas.Option.{none-some, some_pair_parts}
+use Rattle.caf_base.specs.declared.operation.OpName.{OpName}
+use Rattle.caf_base.specs.declared.operation.Stage.{Stage}
+use Rattle.caf_base.specs.declared.operation.Stage.TheVariants.{Ship, Notice, Start, Fetch, Store, Read, Write}
 use Rattle.caf_journal.specs.declared.entry.Entry.{Entry}
 use Rattle.caf_journal.specs.declared.entry.Entry.TheVariants as entry
 use Rattle.caf_journal.specs.declared.fault.TraceFault.{TraceFault}
 use Rattle.caf_journal.specs.declared.fault.TraceFault.TheVariants as fault
 use Rattle.caf_journal.specs.declared.TheConstants.{MAX_ENTRIES}
-use Rattle.caf_journal.specs.Trace.{operation_word, stage_word, count_words, words_of, line_of, line_text, trace_text, HasLine, HasTrace, Spells, IsFirstBadLine, HasFault}
+use Rattle.caf_journal.specs.Trace.{operation_word, stage_word, words_of, line_of, line_text, trace_text, IsImage, IsCount, IsOperation, HasLine, HasTrace, Spells, IsFirstBadLine, HasFault}
 use Rattle.caf_journal.specs.Reading.{cut, entry_of}
 use Rattle.caf_journal.proofs.Cutting.{Lacks, cut-append, cut_is}
 use Rattle.caf_journal.proofs.Words.{some_is, decimal_lacks, operation_lacks, stage_lacks, joined_lacks, Lacks-tested}
@@ -152,3 +157,67 @@ one_bad_line text line other b c =
       | inl lt ↦ sym b.4 ∙ ap (λ (es : List Entry). length es + 1) (sym (stops c.0 c.1 b.0 b.1 c.2 b.2 c.6 (omega arith) (sym apart)).0) ∙ c.4
       | inr le ↦ sym b.4 ∙ ap (λ (es : List Entry). length es + 1) (stops b.0 b.1 c.0 c.1 b.2 c.2 b.6 le apart).0 ∙ c.4
     ]
+
+-- ---- what reading answers
+
+pub read_whole : (text : List ℕ) (r : Result (Vec Entry) TraceFault) → IfOk r (λ read. Spells text read.items) → IfErr r (HasFault text) → (journal : List Entry) → Spells text journal → (r ≡ Err fault.Memory → ⊥) → IsOkAnd r (λ read. read.items ≡ journal)
+read_whole text (Ok read) found faulty journal s rich = one_journal text read.items journal found s
+read_whole text (Err (fault.BadLine line)) found faulty journal s rich = absurd (not_both text journal line s faulty)
+read_whole text (Err fault.Memory) found faulty journal s rich = absurd (rich refl)
+
+pub read_bad : (text : List ℕ) (r : Result (Vec Entry) TraceFault) → IfOk r (λ read. Spells text read.items) → IfErr r (HasFault text) → (line : ℕ) → IsFirstBadLine text line → (r ≡ Err fault.Memory → ⊥) → r ≡ Err (fault.BadLine line)
+read_bad text (Ok read) found faulty line b rich = absurd (not_both text read.items line found b)
+read_bad text (Err (fault.BadLine other)) found faulty line b rich = ap (λ (l : ℕ). Err (fault.BadLine l)) (one_bad_line text other line faulty b)
+read_bad text (Err fault.Memory) found faulty line b rich = absurd (rich refl)
+
+-- ---- the length of a trace
+
+abbrev room : List (List ℕ) → ℕ
+room [] = 0
+room (w ∷ words) = length w + 1 + room words
+
+joined_length : (words : List (List ℕ)) → length (join_with_byte 32 words) ≤ room words
+joined_length [] = omega arith
+joined_length (w ∷ []) = omega arith
+joined_length (w ∷ x ∷ words) =
+    let joined : length (join_with_byte 32 (w ∷ x ∷ words)) ≡ length w + length (32 ∷ join_with_byte 32 (x ∷ words)) = length-append w (32 ∷ join_with_byte 32 (x ∷ words)) in
+    omega (arith, joined_length (x ∷ words))
+
+operation_length : (operation : OpName) → IsOperation operation → length (operation_word operation) ≤ 8
+operation_length operation is = omega (arith, length-append (decimal operation.image) (46 ∷ decimal operation.number), length-decimal-le 2 operation.image (omega arith) (omega arith) (omega arith), length-decimal-le 5 operation.number (omega arith) (omega arith) (omega arith))
+
+image_length : (n : ℕ) → IsImage n → length (decimal n) ≤ 2
+image_length n is = length-decimal-le 2 n (omega arith) (omega arith) (omega arith)
+
+count_length : (n : ℕ) → IsCount n → length (decimal n) ≤ 10
+count_length n is = length-decimal-le 10 n (omega arith) (omega arith) (omega arith)
+
+stage_length : (stage : Stage) → length (stage_word stage) ≤ 6
+stage_length Ship = omega arith
+stage_length Notice = omega arith
+stage_length Start = omega arith
+stage_length Fetch = omega arith
+stage_length Store = omega arith
+stage_length Read = omega arith
+stage_length Write = omega arith
+
+words_length : (e : Entry) → HasLine e → room (words_of e) ≤ 63
+words_length (entry.Step image task) has = omega (arith, image_length image has.0, count_length task has.1)
+words_length (entry.Touch image operation stage) has = omega (arith, image_length image has.0, operation_length operation has.1, stage_length stage)
+words_length (entry.Part image) has = omega (arith, image_length image has)
+words_length (entry.Leave image) has = omega (arith, image_length image has)
+words_length (entry.Ack image operation stage) has = omega (arith, image_length image has.0, operation_length operation has.1, stage_length stage)
+words_length (entry.Return image operation) has = omega (arith, image_length image has.0, operation_length operation has.1)
+words_length (entry.Offer image from) has = omega (arith, image_length image has.0, image_length from has.1)
+words_length (entry.Contribute image four) has = omega (arith, image_length image has.0, count_length four.sent has.1, count_length four.delivered has.2, count_length four.received has.3, count_length four.completed has.4)
+words_length (entry.Relay image from) has = omega (arith, image_length image has.0, image_length from has.1)
+words_length (entry.Result image (pos sum)) has = omega (arith, image_length image has.0, length-decimal-le 19 sum (omega arith) (omega arith) (omega arith))
+words_length (entry.Result image (negsuc sum)) has = absurd has.1
+
+trace_length : (journal : List Entry) → AllByRecursion HasLine journal → length (trace_text journal) ≤ 64 * length journal
+trace_length [] all = omega arith
+trace_length (e ∷ journal) all =
+    omega (arith, trace_length journal all.1, joined_length (words_of e), words_length e all.0, length-append (line_of e) (10 ∷ []), length-append (line_text e) (trace_text journal))
+
+pub trace_short : (journal : List Entry) (text : List ℕ) → HasTrace journal → text ≡ trace_text journal → length text ≤ 64 * length journal
+trace_short journal text has is = rw is (trace_length journal (recursion_from_All HasLine journal has.1))

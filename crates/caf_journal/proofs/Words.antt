@@ -1,22 +1,20 @@
 -- Each word of a line is read as the value whose text it is, and as no other.
-use Rattle.std.proofs.Common.{◌≡◌, ℕ, zero, suc, ◌+◌, ◌<◌, ◌≤◌, ◌^◌, Bool, true, false, not, ◌&&◌, cond, eqb, ltb, List, [], ◌∷◌, ◌++◌, length, map, Option, Some, None, ℤ, pos, negsuc, IsTrue, refl, sym, ap, subst, ◌∙◌, arith}
-use Rattle.std.specs.Fmt.{decimal, signed_decimal}
+use Rattle.std.proofs.Common.{◌≡◌, ℕ, zero, suc, ◌<◌, ◌≤◌, ◌^◌, Bool, true, false, not, cond, eqb, List, [], ◌∷◌, ◌++◌, map, Option, Some, None, IsTrue, refl, sym, ap, subst, ◌∙◌, arith}
+use Rattle.std.specs.Fmt.{decimal}
 use Rattle.std.specs.List.{AllByRecursion, list_all, join_with_byte}
 use Rattle.std.specs.Str.{bytes_eq}
 use Rattle.std.specs.Str.Parse.{AllDigits}
-use Rattle.std.specs.Prelude.{codes}
 use Rattle.std.proofs.lemmas.Bool.{and_parts, ne_eqb, not-true, false≢true}
 use Rattle.std.proofs.Math.Dec.{eqb-suc-zero}
 use Rattle.std.proofs.lemmas.Fmt.{decimal_is_IsNumeral}
 use Rattle.std.proofs.lemmas.Slice.Eq.{bytes_eq-Decides}
 use Rattle.std.proofs.lemmas.Str.Parse.{digit_from_value}
-use Rattle.caf_base.specs.declared.four.Four.{Four}
 use Rattle.caf_base.specs.declared.operation.OpName.{OpName}
 use Rattle.caf_base.specs.declared.operation.Stage.{Stage}
 use Rattle.caf_base.specs.declared.operation.Stage.TheVariants.{Ship, Notice, Start, Fetch, Store, Read, Write}
 use Rattle.caf_journal.specs.declared.fields.TheConstants.{STAGES}
 use Rattle.caf_journal.specs.Trace.{stage_word, operation_word, IsImage, IsCount, IsOperation, is_counted}
-use Rattle.caf_journal.specs.Reading.{◌>>=◌, cut, number_below, image_of, count_of, operation_of, value_at, stage_of, counted_stage_of, number_before, image_before, operation_before, four_of}
+use Rattle.caf_journal.specs.Reading.{◌>>=◌, cut, number_below, image_of, count_of, operation_of, value_at, stage_of, counted_stage_of, number_before, operation_before}
 use Rattle.caf_journal.proofs.Cutting.{Lacks, cut-append, cut_is}
 use Rattle.caf_journal.proofs.Numbers.{number_below_is, number_below-decimal}
 

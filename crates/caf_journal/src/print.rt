@@ -1,17 +1,20 @@
-ghost use Rattle.std.specs.Prelude.{◌≡◌, ◌∷◌, ◌++◌, ◌≤◌, ◌*◌, [], length, IfOk, OnOk, codes};
-ghost use Rattle.std.specs.Fmt.{decimal, signed_decimal};
+ghost use Rattle.std.specs.Prelude.{◌≡◌, ◌∷◌, ◌++◌, ◌≤◌, ◌*◌, List, length, IfOk, OnOk};
+ghost use Rattle.std.specs.Fmt.{decimal};
 ghost use Rattle.std.specs.List.{join_with_byte};
-ghost use Rattle.caf_journal.specs.Trace.{stage_word, operation_word, count_words, line_of, line_text, Spells, HasTrace};
+ghost use Rattle.caf_journal.specs.Trace.{stage_word, operation_word, count_words, line_of, line_text, HasTrace, Spells};
+ghost use Rattle.caf_journal.specs.declared.entry.Entry.{Entry};
 
 use crate::Entry;
 use caf_base::{Four, Memory, OpName, Stage};
 use itoa::{Buffer, Integer};
 use std::alloc::Global;
 
-/// The trace of a journal.
+/// The trace of a journal, which is that of no other journal. A line has at most 64 bytes.
 pub fn print_trace(alloc: Global, j: &[Entry]) -> Result<Vec<u8>, Memory>
     requires { HasTrace j.now }
     ensures spells { IfOk result (λ text. Spells text.items j.now) }
+    ensures only { IfOk result (λ text. (other : List Entry) → Spells text.items other → other ≡ j.now) }
+    ensures short { IfOk result (λ text. length text.items ≤ 64 * length j.now) }
 {
     let mut text = Vec::new(alloc);
     for entry in j {

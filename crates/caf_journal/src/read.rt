@@ -1,6 +1,6 @@
-ghost use Rattle.std.specs.Prelude.{◌≡◌, ◌≢◌, ◌∷◌, ◌++◌, ◌<◌, List, ℕ, length, IfOk, IfErr, IsOkAnd, IsErrOf, MatchOption};
-ghost use Rattle.caf_journal.specs.Trace.{line_text, HasLine, Spells, HasFault, IsFirstBadLine};
-ghost use Rattle.caf_journal.specs.declared.entry.Entry.{Entry as AnEntry};
+ghost use Rattle.std.specs.Prelude.{◌≡◌, ◌∷◌, ◌++◌, List, ℕ, IfOk, IfErr, IsOkAnd, IsErrOf, MatchOption};
+ghost use Rattle.caf_journal.specs.Trace.{line_text, HasLine, Spells, IsFirstBadLine, HasFault};
+ghost use Rattle.caf_journal.specs.declared.entry.Entry.{Entry};
 
 use crate::fields::{cut, entry_of};
 use crate::{Entry, MAX_ENTRIES, TraceFault};
@@ -8,7 +8,20 @@ use std::alloc::Global;
 
 /// The journal of a trace.
 pub fn read_trace(alloc: Global, bytes: &[u8]) -> Result<Vec<Entry>, TraceFault>
-    // What is read is spelled so, and a line that is refused is the first bad one.
+    // The text is the trace of what is read, and a line that is refused is the first bad one.
+    ensures found { IfOk result (λ journal. Spells bytes.now journal.items) }
+    ensures fault { IfErr result (HasFault bytes.now) }
+
+    // A trace is read, and a first bad line is refused, unless memory runs out.
+    ensures trace { (journal : List Entry) → Spells bytes.now journal
+        → ¬ (IsErrOf result TraceFault.Memory) → IsOkAnd result (λ read. read.items ≡ journal) }
+    ensures bad_line { (line : ℕ) → IsFirstBadLine bytes.now line
+        → ¬ (IsErrOf result TraceFault.Memory) → IsErrOf result (TraceFault.BadLine line) }
+{
+    read_lines(alloc, bytes)
+}
+
+fn read_lines(alloc: Global, bytes: &[u8]) -> Result<Vec<Entry>, TraceFault>
     ensures found { IfOk result (λ journal. Spells bytes.now journal.items) }
     ensures fault { IfErr result (HasFault bytes.now) }
 {
@@ -19,7 +32,9 @@ pub fn read_trace(alloc: Global, bytes: &[u8]) -> Result<Vec<Entry>, TraceFault>
         if journal.len() == MAX_ENTRIES {
             return Err(bad_line);
         }
-        let (entry, after) = first_entry(rest).ok_or(bad_line)?;
+        let Some((entry, after)) = first_entry(rest) else {
+            return Err(bad_line);
+        };
         journal.push(entry)?;
         rest = after;
     }
@@ -29,7 +44,7 @@ pub fn read_trace(alloc: Global, bytes: &[u8]) -> Result<Vec<Entry>, TraceFault>
 /// The entry of the first line, and what stands behind the line.
 fn first_entry(text: &[u8]) -> Option<(Entry, &[u8])>
     ensures line { MatchOption result
-        ((e : AnEntry) (after : List ℕ) → HasLine e → text.now ≡ line_text e ++ after → ⊥)
+        ((e : Entry) (after : List ℕ) → HasLine e → text.now ≡ line_text e ++ after → ⊥)
         (λ read. HasLine read.0 × (text.now ≡ line_text read.0 ++ read.1.now)) }
 {
     let (line, after) = cut(text, b'\n')?;

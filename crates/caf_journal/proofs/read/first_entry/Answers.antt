@@ -1,4 +1,4 @@
-use Rattle.std.proofs.Common.{refl, sym, ◌∙◌}
+use Rattle.std.proofs.Common.{sym}
 use Rattle.caf_journal.proofs.Traces.{no_line, bad_line, good_line}
 use Rattle.caf_journal.proofs.read.first_entry.Goals as goal
 
