@@ -1,4 +1,5 @@
-ghost use Rattle.std.specs.Prelude.{◌≡◌, ◌<◌, ◌≤◌, ◌^◌, ◌==◌, map, option_map, position, IfSome};
+ghost use Rattle.std.specs.Prelude.{◌≡◌, ◌<◌, ◌≤◌, ◌^◌, ◌==◌, map, option_map, position, IfSome, IsTrue, ◌↔◌};
+ghost use Rattle.std.specs.Fmt.{decimal};
 ghost use Rattle.caf_journal.specs.Reading as reading;
 
 use crate::Entry;
@@ -263,11 +264,18 @@ fn number_below(word: &[u8], limit: u64) -> Option<u64>
     let Ok(number) = text.parse::<u64>() else {
         return None;
     };
-    if number < limit && Buffer::new().format(number).as_bytes() == word {
+    if number < limit && is_decimal(word, number) {
         Some(number)
     } else {
         None
     }
+}
+
+/// Whether the word is the number in decimal.
+fn is_decimal(word: &[u8], number: u64) -> bool
+    ensures { IsTrue result ↔ (word.now ≡ decimal number) }
+{
+    Buffer::new().format(number).as_bytes() == word
 }
 
 /// What stands before the first mark, and what stands behind it.
