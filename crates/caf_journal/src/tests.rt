@@ -1,5 +1,7 @@
 use super::*;
 use caf_base::{Four, OpName, Stage};
+use std::alloc::{AllocError, Global};
+use std::process::Abort;
 use std::test::Fail;
 
 /// The run of a program of one statement on one image.
@@ -342,9 +344,9 @@ const LIMITS: [Entry; 16] = [
     Entry::Result(7, 9223372036854775807),
 ];
 
-fn reads_and_prints<R: std::process::Abort>(
+fn reads_and_prints<R: Abort>(
     rt: &R,
-    alloc: std::alloc::Global,
+    alloc: Global,
     text: &[u8],
     entries: &[Entry],
 ) -> Result<(), Fail> {
@@ -424,20 +426,37 @@ fn first_bad_lines(rt: HostRuntime) -> Result<(), Fail> {
     Ok(())
 }
 
+/// The text of as many lines as a trace may have.
+fn full_trace(alloc: Global, line: &[u8]) -> Result<Vec<u8>, AllocError> {
+    let mut text = Vec::new(alloc);
+    for _ in 0..MAX_ENTRIES {
+        text.extend_from_slice(line)?;
+    }
+    Ok(text)
+}
+
 #[test]
 fn the_line_after_the_last(rt: HostRuntime) -> Result<(), Fail> {
     let alloc = rt.alloc();
-    let mut text = Vec::new(alloc);
-    for _ in 0..MAX_ENTRIES {
-        text.extend_from_slice(b"part 0\n")?;
-    }
+    let mut text = full_trace(alloc, b"part 0\n")?;
     let journal = read_trace(alloc, &text)?;
     assert_eq!(rt; journal.len(), MAX_ENTRIES);
-    let printed = print_trace(alloc, &journal)?;
-    assert_eq!(rt; printed, text);
     text.extend_from_slice(b"part 0\n")?;
     let fault = read_trace(alloc, &text).err();
     assert_eq!(rt; fault, Some(TraceFault::BadLine(1_000_001)));
+    Ok(())
+}
+
+#[test]
+fn the_longest_trace(rt: HostRuntime) -> Result<(), Fail> {
+    let alloc = rt.alloc();
+    let text = full_trace(
+        alloc,
+        b"contribute 63 4294967295 4294967295 4294967295 4294967295\n",
+    )?;
+    let journal = read_trace(alloc, &text)?;
+    let printed = print_trace(alloc, &journal)?;
+    assert!(rt; printed == text);
     Ok(())
 }
 
