@@ -10,14 +10,14 @@ use itoa::{Buffer, Integer};
 use std::alloc::Global;
 
 /// The trace of a journal, which is that of no other journal. A line has at most 64 bytes.
-pub fn print_trace(alloc: Global, j: &[Entry]) -> Result<Vec<u8>, Memory>
-    requires { HasTrace j.now }
-    ensures spells { IfOk result (λ text. Spells text.items j.now) }
-    ensures only { IfOk result (λ text. (other : List Entry) → Spells text.items other → other ≡ j.now) }
-    ensures short { IfOk result (λ text. length text.items ≤ 64 * length j.now) }
+pub fn print_trace(alloc: Global, journal: &[Entry]) -> Result<Vec<u8>, Memory>
+    requires { HasTrace journal.now }
+    ensures spells { IfOk result (λ text. Spells text.items journal.now) }
+    ensures only { IfOk result (λ text. (other : List Entry) → Spells text.items other → other ≡ journal.now) }
+    ensures short { IfOk result (λ text. length text.items ≤ 64 * length journal.now) }
 {
     let mut text = Vec::new(alloc);
-    for entry in j {
+    for entry in journal {
         push_line(&mut text, entry)?;
     }
     Ok(text)
@@ -74,7 +74,7 @@ fn push_words(text: &mut Vec<u8>, entry: &Entry) -> Result<(), Memory>
     }
 }
 
-// The first word of a line, and the image.
+/// The first word of a line, and the image.
 fn push_start(text: &mut Vec<u8>, kind: &[u8], image: u32) -> Result<(), Memory>
     ensures { OnOk result (text.new.items ≡ text.old.items ++ (kind.now ++ 32 ∷ decimal image)) }
 {
@@ -120,7 +120,7 @@ fn word_of(stage: Stage) -> &'static [u8]
     }
 }
 
-// The mark, and the number in decimal.
+/// The mark, and the number in decimal.
 fn push_number<I: Integer>(text: &mut Vec<u8>, mark: u8, number: I) -> Result<(), Memory>
     ensures { OnOk result (text.new.items ≡ text.old.items ++ mark ∷ I.text number) }
 {

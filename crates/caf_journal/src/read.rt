@@ -7,6 +7,9 @@ use crate::{Entry, MAX_ENTRIES, TraceFault};
 use std::alloc::Global;
 
 /// The journal of a trace.
+///
+/// `BadLine` tells the first line, from 1, that isn't one of a trace. A last line without its end is such a line, and so is
+/// the line after the 1,000,000th.
 pub fn read_trace(alloc: Global, bytes: &[u8]) -> Result<Vec<Entry>, TraceFault>
     // The text is the trace of what is read, and a line that is refused is the first bad one.
     ensures found { IfOk result (λ journal. Spells bytes.now journal.items) }

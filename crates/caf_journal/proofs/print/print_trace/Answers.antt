@@ -6,8 +6,8 @@ use Rattle.caf_journal.proofs.print.print_trace.Goals as goal
 
 pub returns-clause-only : goal.returns-clause-only
 returns-clause-only c =
-    let whole : c.loop-entry.text.items ≡ trace_text c.args.j.now = c.loop-entry.invariant ∙ ap trace_text (take_all c.loop-entry.entry-index c.args.j.now c.loop-entry-test.false) in
-    λ other spells. one_journal c.loop-entry.text.items other c.args.j.now spells (c.requires, whole)
+    let whole : c.loop-entry.text.items ≡ trace_text c.args.journal.now = c.loop-entry.invariant ∙ ap trace_text (take_all c.loop-entry.entry-index c.args.journal.now c.loop-entry-test.false) in
+    λ other spells. one_journal c.loop-entry.text.items other c.args.journal.now spells (c.requires, whole)
 
 pub returns-clause-short : goal.returns-clause-short
-returns-clause-short c = trace_short c.args.j.now c.loop-entry.text.items c.requires (c.loop-entry.invariant ∙ ap trace_text (take_all c.loop-entry.entry-index c.args.j.now c.loop-entry-test.false))
+returns-clause-short c = trace_short c.args.journal.now c.loop-entry.text.items c.requires (c.loop-entry.invariant ∙ ap trace_text (take_all c.loop-entry.entry-index c.args.journal.now c.loop-entry-test.false))
