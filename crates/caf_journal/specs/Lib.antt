@@ -1,1 +1,3 @@
 pub mod Struck
+pub mod Trace
+pub mod Reading

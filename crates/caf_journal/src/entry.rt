@@ -1,3 +1,5 @@
+ghost use Rattle.std.specs.Prelude.{◌≡◌};
+
 use caf_base::{Four, OpName, Stage};
 
 /// One event of a run. The first number is the image that it stands at, from 0.
@@ -26,4 +28,18 @@ pub enum Entry {
     Relay(u32, u32),
     /// The image takes the total of the wave.
     Result(u32, i64),
+}
+
+impl Entry {
+    ghost use Rattle.caf_journal.specs.Struck.{is_choice};
+
+    /// Whether the entry is a choice of the run, and none of the protocol.
+    pub fn is_choice(&self) -> bool
+        ensures { result ≡ is_choice self.now }
+    {
+        matches!(
+            self,
+            Entry::Step(..) | Entry::Touch(..) | Entry::Part(..) | Entry::Leave(..)
+        )
+    }
 }
