@@ -1,0 +1,17 @@
+//! From the bytes of a program to its tokens.
+//!
+//! [`tokens`] answers the tokens of a text, or its first fault. What it must answer is defined over whole lines and
+//! spellings in `specs/`: `Lines` cuts the text, `Spelling` says what stands at a place of a line, and `Tokens` puts
+//! the lines together.
+#![tactic(auto)]
+
+mod fault;
+mod line;
+mod piece;
+mod table;
+mod text;
+mod token;
+
+pub use fault::LexFault;
+pub use text::tokens;
+pub use token::{Sign, Token, What, Word};
