@@ -9,6 +9,8 @@ mod fault;
 mod line;
 mod piece;
 mod table;
+#[cfg(test)]
+mod tests;
 mod text;
 mod token;
 
