@@ -1,4 +1,5 @@
 pub mod Ascii
 pub mod Cuts
+pub mod Longest
 pub mod Pieces
 pub mod Tables

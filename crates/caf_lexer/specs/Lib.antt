@@ -1,3 +1,4 @@
 pub mod Spelling
 pub mod Lines
 pub mod Tokens
+pub mod Longest

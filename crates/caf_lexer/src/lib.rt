@@ -6,6 +6,7 @@
 #![tactic(auto)]
 
 mod fault;
+mod law;
 mod line;
 mod piece;
 mod table;
@@ -15,5 +16,6 @@ mod text;
 mod token;
 
 pub use fault::LexFault;
+pub use law::pieces_are_longest_spellings;
 pub use text::tokens;
 pub use token::{Sign, Token, What, Word};
