@@ -1,5 +1,5 @@
 -- The spellings of a line, told apart from how they are found: what a run of bytes spells, and the longest at a place.
-use Rattle.std.specs.Prelude.{◌≡◌, ℕ, ◌≤◌, Bool, true, false, ◌&&◌, ◌||◌, if◌then◌else◌, ◌==◌, nat_le, List, [], ◌∷◌, length, take, drop, Option, Some, None}
+use Rattle.std.specs.Prelude.{◌≡◌, ℕ, ◌≤◌, Bool, true, false, ◌&&◌, ◌||◌, if◌then◌else◌, ◌==◌, nat_le, List, [], ◌∷◌, length, take, drop, slice_index, Option, Some, None}
 use Rattle.std.specs.Option.{option_map}
 use Rattle.std.specs.List.{list_all}
 use Rattle.std.specs.Char.{is_ascii_digit, is_ascii_alphabetic}
@@ -8,7 +8,7 @@ use Rattle.caf_lexer.specs.declared.token.Sign.{Sign}
 use Rattle.caf_lexer.specs.declared.token.What.TheVariants as what
 use Rattle.caf_lexer.specs.declared.piece.Piece.{Piece}
 use Rattle.caf_lexer.specs.declared.piece.Piece.TheVariants as piece
-use Rattle.caf_lexer.specs.Spelling.{Bytes, is_blank, is_name_byte, name_of, number_of, can_stand, signs}
+use Rattle.caf_lexer.specs.Spelling.{Bytes, is_blank, is_quote, is_name_byte, name_of, number_of, can_stand, signs}
 
 abbrev pub is_empty : Bytes → Bool
 is_empty [] = true
@@ -37,7 +37,7 @@ abbrev pub spelled_from : ℕ → Bytes → Option Piece
 spelled_from b z =
     if is_ascii_alphabetic b then (if list_all is_name_byte z then Some (name_of (b ∷ z)) else None)
     else (if is_ascii_digit b then (if list_all is_ascii_digit z then Some (number_of (b ∷ z)) else None)
-    else (if b == 39 || b == 34 then (if nat_le (length z) 121 then option_map (λ content. piece.Token (what.Text content)) (text_in b false z) else None)
+    else (if is_quote b then (if nat_le (length z) 121 then option_map (λ content. piece.Token (what.Text content)) (text_in b false z) else None)
     else (if b == 38 then (if is_empty z then Some piece.Ampersand else None)
     else (if b == 59 then (if is_empty z then Some (piece.Token what.End) else None)
     else option_map (λ s. piece.Token (what.Sign s)) (sign_of signs (b ∷ z))))))
@@ -46,11 +46,13 @@ abbrev pub spelled : Bytes → Option Piece
 spelled [] = None
 spelled (b ∷ z) = spelled_from b z
 
--- of the spellings that begin here the longest takes so many bytes, and is this piece
+-- Of the spellings that begin here the longest takes so many bytes, and is this piece. A text isn't closed by a quote that
+-- the same quote follows at once.
 pub record IsLongest (z : Bytes) (size : ℕ) (found : Piece) : Type 0 where
   pub within : size ≤ length z
   pub spells : spelled (take size z) ≡ Some found
   pub longest : (n : ℕ) (other : Piece) → n ≤ length z → spelled (take n z) ≡ Some other → n ≤ size
+  pub closed : is_quote (slice_index z 0) ≡ true → (slice_index (drop size z) 0 == slice_index z 0) ≡ false
 
 -- behind some blanks stands the longest spelling, of this piece, and then the rest
 pub record Leads (z : Bytes) (found : Piece) (rest : Bytes) : Type 0 where

@@ -36,6 +36,10 @@ is_blank b = b == 32 || b == 9
 abbrev pub is_name_byte : ℕ → Bool
 is_name_byte b = is_ascii_alphanumeric b || b == 95
 
+-- `'` and `"`
+abbrev pub is_quote : ℕ → Bool
+is_quote b = b == 39 || b == 34
+
 -- ---- names and words: a letter, and then all letters, digits and `_` that follow
 
 -- the reserved words
@@ -208,7 +212,7 @@ unfoldable pub front : ℕ → Bytes → Cut
 front b z =
     if is_ascii_alphabetic b then (let n = prefix_len is_name_byte z in (name_of (take n z), n))
     else (if is_ascii_digit b then (let n = prefix_len is_ascii_digit z in (number_of (take n z), n))
-    else (if b == 39 || b == 34 then text_at b (drop 1 z)
+    else (if is_quote b then text_at b (drop 1 z)
     else (if b == 38 then (piece.Ampersand, 1)
     else (if b == 59 then (piece.Token what.End, 1)
     else sign_at b z))))
