@@ -3,3 +3,4 @@ pub mod Cuts
 pub mod Longest
 pub mod Pieces
 pub mod Tables
+pub mod Whole

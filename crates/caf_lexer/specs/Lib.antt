@@ -2,3 +2,4 @@ pub mod Spelling
 pub mod Lines
 pub mod Tokens
 pub mod Longest
+pub mod HasTokens

@@ -61,10 +61,15 @@ abbrev pub in_front : List Token → Answer → Answer
 in_front tokens (Ok others) = Ok (tokens ++ others)
 in_front tokens (Err fault) = Err fault
 
+-- what a line gives, and then what the others give, from whether the statement goes on there
+abbrev pub followed_by : Given → (Bool → Answer) → Answer
+followed_by (Ok given) others = in_front given.0 (others given.1)
+followed_by (Err fault) others = Err fault
+
 -- What these lines give, one after another. The first has this number, and the statement before it may go on there.
 abbrev pub lines_of : Bool → ℕ → List Bytes → Answer
 lines_of goes_on n [] = if goes_on then Err (OpenContinuation (n - 1)) else Ok []
-lines_of goes_on n (line ∷ others) = elim (line_of goes_on n line) [ Ok given ↦ in_front given.0 (lines_of given.1 (n + 1) others) | Err fault ↦ Err fault ]
+lines_of goes_on n (line ∷ others) = followed_by (line_of goes_on n line) (λ on. lines_of on (n + 1) others)
 
 abbrev pub is_end : What → Bool
 is_end what.End = true
