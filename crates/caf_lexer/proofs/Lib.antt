@@ -1,5 +1,6 @@
 pub mod Ascii
 pub mod Cuts
+pub mod Ends
 pub mod Longest
 pub mod Pieces
 pub mod Tables

@@ -3,3 +3,4 @@ pub mod Lines
 pub mod Tokens
 pub mod Longest
 pub mod HasTokens
+pub mod Ends

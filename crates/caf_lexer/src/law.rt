@@ -5,6 +5,7 @@ ghost use Rattle.std.specs.List.{list_all};
 ghost use Rattle.caf_lexer.specs.declared.fault.LexFault.{LexFault};
 ghost use Rattle.caf_lexer.specs.declared.piece.Piece.{Piece};
 ghost use Rattle.caf_lexer.specs.declared.token.Token.{Token};
+ghost use Rattle.caf_lexer.specs.Ends.{ended_after, is_apart};
 ghost use Rattle.caf_lexer.specs.HasTokens.{HasTokens, HasFault};
 ghost use Rattle.caf_lexer.specs.Longest.{is_sound, IsCut};
 ghost use Rattle.caf_lexer.specs.Spelling.{pieces};
@@ -23,4 +24,10 @@ pub fn each_text_has_tokens_or_a_fault()
     ensures one { (text : List ℕ) → ((tokens : List Token) × HasTokens text tokens) ⊎ ((fault : LexFault) × HasFault text fault) }
     ensures tokens { (text : List ℕ) (tokens : List Token) → HasTokens text tokens ↔ (tokens_of text ≡ Ok tokens) }
     ensures fault { (text : List ℕ) (fault : LexFault) → HasFault text fault ↔ (tokens_of text ≡ Err fault) }
+{}
+
+/// In the tokens of a text no `End` stands first, none follows another, and the last is an `End`, if there are any.
+pub fn ends_are_placed()
+    ensures apart { (text : List ℕ) (tokens : List Token) → tokens_of text ≡ Ok tokens → is_apart true tokens ≡ true }
+    ensures last { (text : List ℕ) (tokens : List Token) → tokens_of text ≡ Ok tokens → ended_after true tokens ≡ true }
 {}

@@ -16,6 +16,6 @@ mod text;
 mod token;
 
 pub use fault::LexFault;
-pub use law::{each_text_has_tokens_or_a_fault, pieces_are_longest_spellings};
+pub use law::{each_text_has_tokens_or_a_fault, ends_are_placed, pieces_are_longest_spellings};
 pub use text::tokens;
 pub use token::{Sign, Token, What, Word};
