@@ -1,15 +1,12 @@
 -- Where the ends of statements stand in the list of a text.
-use Rattle.std.proofs.Common.{◌≡◌, ℕ, zero, suc, ◌+◌, ◌-◌, Bool, true, false, not, ◌&&◌, nat_lt, List, [], ◌∷◌, ◌++◌, length, fold, Result, Ok, Err, refl, ap, sym, ◌∙◌, subst, arith}
-use Rattle.std.specs.Prelude.{slice_get}
+use Rattle.std.proofs.Common.{◌≡◌, ℕ, suc, ◌+◌, ◌-◌, Bool, true, false, not, ◌&&◌, nat_lt, List, [], ◌∷◌, ◌++◌, length, Ok, Err, refl, ap, sym, ◌∙◌, subst, arith}
 use Rattle.caf_lexer.specs.declared.token.Token.{Token}
-use Rattle.caf_lexer.specs.declared.token.What.{What}
-use Rattle.caf_lexer.specs.declared.token.What.TheVariants as what
 use Rattle.caf_lexer.specs.declared.fault.LexFault.{LexFault}
 use Rattle.caf_lexer.specs.declared.piece.Piece.{Piece}
 use Rattle.caf_lexer.specs.declared.piece.Piece.TheVariants as piece
 use Rattle.caf_lexer.specs.Spelling.{Bytes, pieces}
 use Rattle.caf_lexer.specs.Lines.{lines}
-use Rattle.caf_lexer.specs.Tokens.{Given, Answer, is_end, is_end_if_any, is_ended, with_token, with_tokens, with_answer, after_token, token_at, rest_of, joined, line_of, lines_of, in_front, followed_by, tokens_of}
+use Rattle.caf_lexer.specs.Tokens.{Given, Answer, is_end, is_ended, with_token, with_tokens, with_answer, after_token, token_at, rest_of, joined, line_of, lines_of, in_front, followed_by, tokens_of}
 use Rattle.caf_lexer.specs.Ends.{ended_after, is_apart}
 
 -- the last of a list that isn't empty

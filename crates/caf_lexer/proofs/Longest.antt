@@ -1,5 +1,5 @@
 -- What the lexer takes at a place is the longest spelling there.
-use Rattle.std.proofs.Common.{◌≡◌, ℕ, zero, suc, ◌+◌, ◌-◌, ◌<◌, ◌≤◌, Bool, true, false, not, ◌&&◌, ◌||◌, ◌==◌, nat_lt, cond, ◌⊎◌, inl, inr, List, [], ◌∷◌, ◌++◌, length, take, drop, Option, Some, None, Result, Ok, Err, refl, ap, sym, ◌∙◌, subst, arith, length-take}
+use Rattle.std.proofs.Common.{◌≡◌, ℕ, zero, suc, ◌+◌, ◌-◌, ◌<◌, ◌≤◌, Bool, true, false, not, ◌&&◌, ◌||◌, ◌==◌, nat_lt, cond, ◌⊎◌, inl, inr, List, [], ◌∷◌, length, take, drop, Option, Some, None, Ok, Err, refl, ap, sym, ◌∙◌, subst, arith, length-take}
 use Rattle.std.specs.Prelude.{slice_index, nat_le}
 use Rattle.std.specs.Option.{option_map, is_some}
 use Rattle.std.specs.List.{prefix_len, list_all}
@@ -12,11 +12,10 @@ use Rattle.std.proofs.lemmas.Bool.Decides.{nat_tests}
 use Rattle.std.proofs.lemmas.Bool.{both_ways, ltb-false, ltb-true, leb-true, eqb-true}
 use Rattle.caf_lexer.specs.declared.token.Sign.{Sign}
 use Rattle.caf_lexer.specs.declared.token.What.TheVariants as what
-use Rattle.caf_lexer.specs.declared.fault.Mistake.{Mistake}
 use Rattle.caf_lexer.specs.declared.piece.Piece.{Piece}
 use Rattle.caf_lexer.specs.declared.piece.Piece.TheVariants as piece
-use Rattle.caf_lexer.specs.Spelling.{Bytes, Cut, Quoted, is_blank, is_quote, is_name_byte, name_of, number_of, can_stand, before, quoted, text_of, text_at, misplaced, signs, begins, sign_in, sign_or, sign_at, wrong, front, pieces, pieces_after}
-use Rattle.caf_lexer.specs.Longest.{is_empty, put, text_in, sign_of, spelled, spelled_from, IsLongest, Leads, is_over, IsCut, is_sound}
+use Rattle.caf_lexer.specs.Spelling.{Bytes, Cut, Quoted, is_blank, is_quote, is_name_byte, name_of, number_of, can_stand, before, quoted, text_of, text_at, misplaced, signs, begins, sign_in, sign_or, sign_at, front, pieces, pieces_after}
+use Rattle.caf_lexer.specs.Longest.{is_empty, put, text_in, sign_of, spelled, IsLongest, is_over, IsCut, is_sound}
 
 one-add : (n : ℕ) → 1 + n ≡ suc n
 one-add n = omega arith

@@ -1,7 +1,6 @@
 -- The pieces of a line, one after another.
-use Rattle.std.proofs.Common.{◌≡◌, ℕ, zero, suc, ◌+◌, ◌-◌, ◌<◌, max, List, [], ◌∷◌, length, drop, refl, arith}
+use Rattle.std.proofs.Common.{◌≡◌, ℕ, zero, suc, ◌-◌, ◌<◌, max, [], ◌∷◌, length, drop, refl, arith}
 use Rattle.std.specs.Prelude.{slice_index}
-use Rattle.caf_lexer.specs.declared.piece.Piece.{Piece}
 use Rattle.caf_lexer.specs.Spelling.{Bytes, Cut, Begins, pieces, pieces_after, front}
 
 pieces_after-drop : (n : ℕ) (z : Bytes) → pieces_after n z ≡ pieces (drop n z)

@@ -1,18 +1,16 @@
 -- A text has tokens, or a first fault, and they are those that are computed.
-use Rattle.std.proofs.Common.{◌≡◌, ℕ, ◌+◌, ◌-◌, ◌≤◌, Bool, true, false, ◌&&◌, nat_lt, cond, ◌⊎◌, inl, inr, List, [], ◌∷◌, ◌++◌, length, Result, Ok, Err, refl, ap, sym, ◌∙◌, subst, arith}
+use Rattle.std.proofs.Common.{◌≡◌, ℕ, ◌+◌, Bool, true, false, nat_lt, ◌⊎◌, inl, inr, List, [], ◌∷◌, length, Ok, Err, refl, ap, sym, ◌∙◌, subst}
 use Rattle.std.specs.List.{list_all}
 use Rattle.std.proofs.lemmas.Bool.{ltb-false, le-ltb}
 use Rattle.caf_lexer.specs.declared.token.Token.{Token}
-use Rattle.caf_lexer.specs.declared.token.What.{What}
-use Rattle.caf_lexer.specs.declared.fault.Mistake.{Mistake}
 use Rattle.caf_lexer.specs.declared.fault.LexFault.{LexFault}
-use Rattle.caf_lexer.specs.declared.fault.LexFault.TheVariants.{LongLine, OpenContinuation}
+use Rattle.caf_lexer.specs.declared.fault.LexFault.TheVariants.{LongLine}
 use Rattle.caf_lexer.specs.declared.piece.Piece.{Piece}
 use Rattle.caf_lexer.specs.declared.piece.Piece.TheVariants as piece
 use Rattle.caf_lexer.specs.Spelling.{Bytes, pieces}
 use Rattle.caf_lexer.specs.Lines.{lines}
-use Rattle.caf_lexer.specs.Tokens.{Given, Answer, rest_of, joined, after_token, line_of, lines_of, in_front, followed_by, with_tokens, with_answer, tokens_of, token_at}
-use Rattle.caf_lexer.specs.Longest.{is_sound, IsCut}
+use Rattle.caf_lexer.specs.Tokens.{Given, Answer, rest_of, joined, after_token, line_of, lines_of, in_front, followed_by, with_tokens, tokens_of, token_at}
+use Rattle.caf_lexer.specs.Longest.{is_sound}
 use Rattle.caf_lexer.specs.HasTokens.{LineGives, LinesGive, LinesFail, HasTokens, HasFault}
 use Rattle.caf_lexer.proofs.Longest.{pieces_after-cut, cut-once}
 

@@ -1,5 +1,5 @@
 -- The lines of a text.
-use Rattle.std.specs.Prelude.{ℕ, ◌-◌, Bool, ◌&&◌, if◌then◌else◌, ◌==◌, List, [], ◌∷◌, length, take, slice_index}
+use Rattle.std.specs.Prelude.{ℕ, ◌-◌, ◌&&◌, if◌then◌else◌, ◌==◌, List, [], ◌∷◌, length, take, slice_index}
 use Rattle.caf_lexer.specs.Spelling.{Bytes}
 
 -- with this byte before the first of these lines

@@ -7,7 +7,6 @@ use Rattle.caf_lexer.specs.declared.token.Word.{Word}
 use Rattle.caf_lexer.specs.declared.token.Word.TheVariants as word
 use Rattle.caf_lexer.specs.declared.token.Sign.{Sign}
 use Rattle.caf_lexer.specs.declared.token.Sign.TheVariants as sign
-use Rattle.caf_lexer.specs.declared.token.What.{What}
 use Rattle.caf_lexer.specs.declared.token.What.TheVariants as what
 use Rattle.caf_lexer.specs.declared.fault.Mistake.{Mistake}
 use Rattle.caf_lexer.specs.declared.fault.Mistake.TheVariants.{NotAscii, BadToken, BadNumber}

@@ -1,4 +1,4 @@
-use Rattle.std.proofs.Common.{sym, subst, take, ℕ}
+use Rattle.std.proofs.Common.{sym, subst, take}
 use Rattle.std.specs.Str.{IsAscii}
 use Rattle.caf_lexer.proofs.Ascii.{name_is_ascii}
 use Rattle.caf_lexer.proofs.piece.front.Goals as goal
