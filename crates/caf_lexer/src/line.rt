@@ -14,34 +14,34 @@ use std::alloc::Global;
 const MOST_LINE_BYTES: usize = 132;
 
 /// The line from its first piece on, empty where a comment or the line's end comes.
-fn from_piece(mut z: &[u8]) -> &[u8]
-    ensures same { pieces result.now ≡ pieces z.entry.now }
-    ensures within { length result.now ≤ length z.entry.now }
+fn from_piece(mut bytes: &[u8]) -> &[u8]
+    ensures same { pieces result.now ≡ pieces bytes.entry.now }
+    ensures within { length result.now ≤ length bytes.entry.now }
     ensures at { 0 < length result.now → Begins (slice_index result.now 0) }
 {
-    while let [b, rest @ ..] = z {
+    while let [b, rest @ ..] = bytes {
         if *b == b' ' || *b == b'\t' {
-            z = rest;
+            bytes = rest;
         } else if *b == b'!' {
             return &[];
         } else {
-            return z;
+            return bytes;
         }
     }
-    z
+    bytes
 }
 
 /// The first piece, and the line from the next one on.
-fn cut(alloc: Global, z: &[u8]) -> Result<(Piece, &[u8]), Memory>
-    requires some { 0 < length z.now }
-    requires bound { length z.now < 2 ^ 63 }
-    requires begins { Begins (slice_index z.now 0) }
-    ensures pieces { IfOk result (λ cut. pieces z.now ≡ cut.0 ∷ pieces cut.1.now) }
-    ensures less { IfOk result (λ cut. length cut.1.now < length z.now) }
+fn cut(alloc: Global, bytes: &[u8]) -> Result<(Piece, &[u8]), Memory>
+    requires some { 0 < length bytes.now }
+    requires bound { length bytes.now < 2 ^ 63 }
+    requires begins { Begins (slice_index bytes.now 0) }
+    ensures pieces { IfOk result (λ cut. pieces bytes.now ≡ cut.0 ∷ pieces cut.1.now) }
+    ensures less { IfOk result (λ cut. length cut.1.now < length bytes.now) }
     ensures at { IfOk result (λ cut. 0 < length cut.1.now → Begins (slice_index cut.1.now 0)) }
 {
-    let (piece, length) = front(alloc, z)?;
-    let (_, rest) = z.split_at(length.max(1));
+    let (piece, length) = front(alloc, bytes)?;
+    let (_, rest) = bytes.split_at(length.max(1));
     Ok((piece, from_piece(rest)))
 }
 
@@ -77,21 +77,21 @@ fn rest(
     alloc: Global,
     tokens: &mut Sequence<Token>,
     line: u32,
-    mut z: &[u8],
+    mut bytes: &[u8],
 ) -> Result<bool, LexFault>
-    requires bound { length z.now < 2 ^ 63 }
-    requires begins { 0 < length z.now → Begins (slice_index z.now 0) }
-    ensures { spec.Leaves result tokens.new (spec.given_after tokens.old (spec.rest_of line (pieces z.entry.now))) }
+    requires bound { length bytes.now < 2 ^ 63 }
+    requires begins { 0 < length bytes.now → Begins (slice_index bytes.now 0) }
+    ensures { spec.Leaves result tokens.new (spec.given_after tokens.old (spec.rest_of line (pieces bytes.entry.now))) }
 {
-    while !z.is_empty() {
-        let (piece, others) = cut(alloc, z)?;
+    while !bytes.is_empty() {
+        let (piece, others) = cut(alloc, bytes)?;
         match piece {
             Piece::Token(what) => add(tokens, Token { what, line })?,
             Piece::Mistake(mistake) => return Err(mistake.at(line)),
             Piece::Ampersand if others.is_empty() => return Ok(true),
             Piece::Ampersand => return Err(LexFault::BadToken(line)),
         }
-        z = others;
+        bytes = others;
     }
     add(
         tokens,
@@ -118,14 +118,14 @@ pub fn read_line(
     if bytes.len() > MOST_LINE_BYTES {
         return Err(LexFault::LongLine(line));
     }
-    let z = from_piece(bytes);
-    if z.is_empty() && goes_on {
+    let bytes = from_piece(bytes);
+    if bytes.is_empty() && goes_on {
         return Ok(true);
     }
-    if z.is_empty() {
-        return rest(alloc, tokens, line, z);
+    if bytes.is_empty() {
+        return rest(alloc, tokens, line, bytes);
     }
-    let (first, others) = cut(alloc, z)?;
+    let (first, others) = cut(alloc, bytes)?;
     match first {
         Piece::Token(what) => {
             add(tokens, Token { what, line })?;

@@ -33,24 +33,24 @@ fn is_name_byte(b: u8) -> bool
 }
 
 /// How many bytes in front can stand in a name.
-fn name_length(z: &[u8]) -> usize
-    ensures value { result ≡ prefix_len spec.is_name_byte z.now }
-    ensures within { result ≤ length z.now }
+fn name_length(bytes: &[u8]) -> usize
+    ensures value { result ≡ prefix_len spec.is_name_byte bytes.now }
+    ensures within { result ≤ length bytes.now }
 {
     let mut end = 0;
-    while end < z.len() && is_name_byte(z[end]) {
+    while end < bytes.len() && is_name_byte(bytes[end]) {
         end += 1;
     }
     end
 }
 
 /// How many digits stand in front.
-fn number_length(z: &[u8]) -> usize
-    ensures value { result ≡ prefix_len is_ascii_digit z.now }
-    ensures within { result ≤ length z.now }
+fn number_length(bytes: &[u8]) -> usize
+    ensures value { result ≡ prefix_len is_ascii_digit bytes.now }
+    ensures within { result ≤ length bytes.now }
 {
     let mut end = 0;
-    while end < z.len() && z[end].is_ascii_digit() {
+    while end < bytes.len() && bytes[end].is_ascii_digit() {
         end += 1;
     }
     end
@@ -62,10 +62,10 @@ fn is_same(written: &[u8], spelling: &[u8]) -> bool
     written.eq_ignore_ascii_case(spelling)
 }
 
-fn begins(z: &[u8], spelling: &[u8]) -> bool
-    ensures { result ≡ spec.begins z.now spelling.now }
+fn begins(bytes: &[u8], spelling: &[u8]) -> bool
+    ensures { result ≡ spec.begins bytes.now spelling.now }
 {
-    let front = &z[..spelling.len().min(z.len())];
+    let front = &bytes[..spelling.len().min(bytes.len())];
     is_same(front, spelling)
 }
 
@@ -83,12 +83,12 @@ fn word_in(mut table: &[(&[u8], Word)], name: &[u8]) -> Option<Word>
 }
 
 /// The first sign of the table with which the line begins, and its length.
-fn sign_in(mut table: &[(&[u8], Sign)], z: &[u8]) -> Option<(Sign, usize)>
-    ensures value { result ≡ spec.sign_in (map (λ entry. (entry.0.now, entry.1)) table.entry.now) z.now }
-    ensures within { IfSome result (λ found. found.1 ≤ length z.now) }
+fn sign_in(mut table: &[(&[u8], Sign)], bytes: &[u8]) -> Option<(Sign, usize)>
+    ensures value { result ≡ spec.sign_in (map (λ entry. (entry.0.now, entry.1)) table.entry.now) bytes.now }
+    ensures within { IfSome result (λ found. found.1 ≤ length bytes.now) }
 {
     while let [entry, others @ ..] = table {
-        if begins(z, entry.0) {
+        if begins(bytes, entry.0) {
             return Some((entry.1, entry.0.len()));
         }
         table = others;
@@ -165,10 +165,10 @@ fn number(digits: &[u8]) -> Piece
 }
 
 /// The first byte, or 0 where there is none.
-fn first_byte(z: &[u8]) -> u8
-    ensures { result ≡ slice_index z.now 0 }
+fn first_byte(bytes: &[u8]) -> u8
+    ensures { result ≡ slice_index bytes.now 0 }
 {
-    if z.is_empty() { 0 } else { z[0] }
+    if bytes.is_empty() { 0 } else { bytes[0] }
 }
 
 fn can_stand(b: u8) -> bool
@@ -195,17 +195,17 @@ fn wrong(mistake: Mistake) -> (Piece, usize)
 
 /// The text that begins here, up to its closing quote.
 #[tactic(auto, unfolding(crate::specs::Spelling::text_at))]
-fn text(alloc: Global, quote: u8, mut z: &[u8]) -> Result<(Piece, usize), Memory>
+fn text(alloc: Global, quote: u8, mut bytes: &[u8]) -> Result<(Piece, usize), Memory>
     requires ascii { quote < 128 }
-    requires bound { length z.now < 2 ^ 63 }
-    ensures value { IfOk result (λ cut. cut ≡ spec.text_at quote z.entry.now) }
-    ensures within { IfOk result (λ cut. cut.1 ≤ length z.entry.now + 1) }
+    requires bound { length bytes.now < 2 ^ 63 }
+    ensures value { IfOk result (λ cut. cut ≡ spec.text_at quote bytes.entry.now) }
+    ensures within { IfOk result (λ cut. cut.1 ≤ length bytes.entry.now + 1) }
 {
     let mut content = String::new(alloc);
     let mut length: usize = 1;
     let mut room = MOST_TEXT_BYTES;
     let mut is_second = false;
-    while let [b, rest @ ..] = z {
+    while let [b, rest @ ..] = bytes {
         if is_second {
             is_second = false;
         } else if *b == quote {
@@ -228,19 +228,19 @@ fn text(alloc: Global, quote: u8, mut z: &[u8]) -> Result<(Piece, usize), Memory
             room -= 1;
         }
         length += 1;
-        z = rest;
+        bytes = rest;
     }
     Ok(wrong(Mistake::BadToken))
 }
 
 /// The sign that begins here.
 #[tactic(auto, unfolding(crate::specs::Spelling::sign_at), using(crate::proofs::Tables::signs_are))]
-fn sign(b: u8, z: &[u8]) -> (Piece, usize)
-    requires { 0 < length z.now }
-    ensures value { result ≡ spec.sign_at b z.now }
-    ensures within { result.1 ≤ length z.now }
+fn sign(b: u8, bytes: &[u8]) -> (Piece, usize)
+    requires { 0 < length bytes.now }
+    ensures value { result ≡ spec.sign_at b bytes.now }
+    ensures within { result.1 ≤ length bytes.now }
 {
-    match sign_in(&SIGNS, z) {
+    match sign_in(&SIGNS, bytes) {
         Some((sign, length)) => (Piece::Token(What::Sign(sign)), length),
         None => wrong(misplaced(b)),
     }
@@ -248,25 +248,25 @@ fn sign(b: u8, z: &[u8]) -> (Piece, usize)
 
 /// The piece that begins here, and its length.
 #[tactic(auto, unfolding(crate::specs::Spelling::front))]
-pub fn front(alloc: Global, z: &[u8]) -> Result<(Piece, usize), Memory>
-    requires some { 0 < length z.now }
-    requires bound { length z.now < 2 ^ 63 }
-    ensures value { IfOk result (λ cut. cut ≡ spec.front (slice_index z.now 0) z.now) }
-    ensures within { IfOk result (λ cut. cut.1 ≤ length z.now) }
+pub fn front(alloc: Global, bytes: &[u8]) -> Result<(Piece, usize), Memory>
+    requires some { 0 < length bytes.now }
+    requires bound { length bytes.now < 2 ^ 63 }
+    ensures value { IfOk result (λ cut. cut ≡ spec.front (slice_index bytes.now 0) bytes.now) }
+    ensures within { IfOk result (λ cut. cut.1 ≤ length bytes.now) }
 {
-    let b = z[0];
+    let b = bytes[0];
     if b.is_ascii_alphabetic() {
-        let length = name_length(z);
-        return Ok((name(alloc, &z[..length])?, length));
+        let length = name_length(bytes);
+        return Ok((name(alloc, &bytes[..length])?, length));
     }
     if b.is_ascii_digit() {
-        let length = number_length(z);
-        return Ok((number(&z[..length]), length));
+        let length = number_length(bytes);
+        return Ok((number(&bytes[..length]), length));
     }
     match b {
-        b'\'' | b'"' => text(alloc, b, &z[1..]),
+        b'\'' | b'"' => text(alloc, b, &bytes[1..]),
         b'&' => Ok((Piece::Ampersand, 1)),
         b';' => Ok((Piece::Token(What::End), 1)),
-        _ => Ok(sign(b, z)),
+        _ => Ok(sign(b, bytes)),
     }
 }

@@ -12,39 +12,39 @@ use caf_base::Sequence;
 use std::alloc::Global;
 
 /// How many bytes stand before the first byte 10.
-fn line_length(z: &[u8]) -> usize
-    ensures value { result ≡ prefix_len (λ b. not (b == 10)) z.now }
-    ensures within { result ≤ length z.now }
+fn line_length(bytes: &[u8]) -> usize
+    ensures value { result ≡ prefix_len (λ b. not (b == 10)) bytes.now }
+    ensures within { result ≤ length bytes.now }
 {
     let mut end = 0;
-    while end < z.len() && z[end] != b'\n' {
+    while end < bytes.len() && bytes[end] != b'\n' {
         end += 1;
     }
     end
 }
 
 /// What stands before a byte 10, without the byte 13 that belongs to the line end.
-fn without_return(z: &[u8]) -> &[u8]
-    ensures { result.now ≡ spec.without_return z.now }
+fn without_return(bytes: &[u8]) -> &[u8]
+    ensures { result.now ≡ spec.without_return bytes.now }
 {
-    if z.len() > 0 && z[z.len() - 1] == b'\r' {
-        &z[..z.len() - 1]
+    if bytes.len() > 0 && bytes[bytes.len() - 1] == b'\r' {
+        &bytes[..bytes.len() - 1]
     } else {
-        z
+        bytes
     }
 }
 
 /// The first line, and what comes after it.
-fn next_line(z: &[u8]) -> (&[u8], &[u8])
-    requires { 0 < length z.now }
-    ensures lines { spec.lines z.now ≡ result.0.now ∷ spec.lines result.1.now }
-    ensures less { length result.1.now < length z.now }
+fn next_line(bytes: &[u8]) -> (&[u8], &[u8])
+    requires { 0 < length bytes.now }
+    ensures lines { spec.lines bytes.now ≡ result.0.now ∷ spec.lines result.1.now }
+    ensures less { length result.1.now < length bytes.now }
 {
-    let end = line_length(z);
-    if end == z.len() {
-        return (z, &z[end..]);
+    let end = line_length(bytes);
+    if end == bytes.len() {
+        return (bytes, &bytes[end..]);
     }
-    let (line, rest) = z.split_at(end);
+    let (line, rest) = bytes.split_at(end);
     let (_, rest) = rest.split_at(1);
     (without_return(line), rest)
 }

@@ -4,4 +4,4 @@ use Rattle.caf_lexer.proofs.Ascii.{name_is_ascii}
 use Rattle.caf_lexer.proofs.piece.front.Goals as goal
 
 pub name-requires : goal.name-requires
-name-requires c = subst (λ n. IsAscii (take n c.args.z.now)) (sym c.name_length-length.ensures.value) (name_is_ascii c.args.z.now)
+name-requires c = subst (λ n. IsAscii (take n c.args.bytes.now)) (sym c.name_length-length.ensures.value) (name_is_ascii c.args.bytes.now)

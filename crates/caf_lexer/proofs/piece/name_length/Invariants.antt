@@ -5,9 +5,9 @@ use Rattle.caf_lexer.proofs.piece.name_length.Given as goal
 
 abbrev pub invariant-loop-end : goal.invariant-loop-end
 invariant-loop-end l = record {
-  same : l.end + prefix_len is_name_byte (drop l.end l.z) ≡ prefix_len is_name_byte l.z;
-  within : l.end ≤ length l.z;
+  same : l.end + prefix_len is_name_byte (drop l.end l.bytes) ≡ prefix_len is_name_byte l.bytes;
+  within : l.end ≤ length l.bytes;
 }
 
 abbrev pub decreases-loop-end : goal.decreases-loop-end
-decreases-loop-end l = length l.z - l.end
+decreases-loop-end l = length l.bytes - l.end

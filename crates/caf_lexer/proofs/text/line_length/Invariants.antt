@@ -4,9 +4,9 @@ use Rattle.caf_lexer.proofs.text.line_length.Given as goal
 
 abbrev pub invariant-loop-end : goal.invariant-loop-end
 invariant-loop-end l = record {
-  same : l.end + prefix_len (λ b. not (b == 10)) (drop l.end l.z) ≡ prefix_len (λ b. not (b == 10)) l.z;
-  within : l.end ≤ length l.z;
+  same : l.end + prefix_len (λ b. not (b == 10)) (drop l.end l.bytes) ≡ prefix_len (λ b. not (b == 10)) l.bytes;
+  within : l.end ≤ length l.bytes;
 }
 
 abbrev pub decreases-loop-end : goal.decreases-loop-end
-decreases-loop-end l = length l.z - l.end
+decreases-loop-end l = length l.bytes - l.end
