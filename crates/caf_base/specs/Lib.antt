@@ -1,3 +1,4 @@
 pub mod Trap
 pub mod Arithmetic
 pub mod ImageMemory
+pub mod Element
