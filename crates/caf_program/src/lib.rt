@@ -1,0 +1,20 @@
+//! Programs with slots in place of names, and the meaning of their expressions.
+//!
+//! A variable of the main program is the place of its object, a dummy or a local is a cell of its frame, and a
+//! parameter is its value. The rules that such a program keeps stand in `specs/`.
+#![tactic(auto)]
+
+mod evaluator;
+mod expr;
+mod program;
+mod stmt;
+mod view;
+
+pub use evaluator::eval;
+pub use expr::{ExprR, PlaceR, TeamR};
+pub use program::{DummyR, Intent, Program, SubR, ValueKind};
+pub use stmt::{
+    ActualR, CopyEventR, EventR, LoopVariableR, OwnEventR, PrintR, RangeR, RegionR, SectionR,
+    StmtR, VariableR,
+};
+pub use view::View;
