@@ -4,12 +4,14 @@
 //! parameter is its value. The rules that such a program keeps stand in `specs/`.
 #![tactic(auto)]
 
+mod accepted;
 mod evaluator;
 mod expr;
 mod program;
 mod stmt;
 mod view;
 
+pub use accepted::Accepted;
 pub use evaluator::eval;
 pub use expr::{ExprR, PlaceR, TeamR};
 pub use program::{DummyR, Intent, Program, SubR, ValueKind};
