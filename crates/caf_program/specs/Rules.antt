@@ -10,20 +10,20 @@ use Rattle.caf_program.specs.declared.program.DummyR.{DummyR}
 use Rattle.caf_program.specs.declared.program.SubR.{SubR}
 use Rattle.caf_program.specs.declared.stmt.LoopVariableR.{LoopVariableR}
 use Rattle.caf_program.specs.declared.stmt.LoopVariableR.TheVariants as counter
-use Rattle.caf_program.specs.declared.stmt.VariableR.{VariableR}
-use Rattle.caf_program.specs.declared.stmt.VariableR.TheVariants as variable
-use Rattle.caf_program.specs.declared.stmt.ActualR.{ActualR}
-use Rattle.caf_program.specs.declared.stmt.ActualR.TheVariants as actual
-use Rattle.caf_program.specs.declared.stmt.PrintR.{PrintR}
-use Rattle.caf_program.specs.declared.stmt.PrintR.TheVariants as part
-use Rattle.caf_program.specs.declared.stmt.RangeR.{RangeR}
-use Rattle.caf_program.specs.declared.stmt.RegionR.{RegionR}
-use Rattle.caf_program.specs.declared.stmt.SectionR.{SectionR}
-use Rattle.caf_program.specs.declared.stmt.SectionR.TheVariants as section
-use Rattle.caf_program.specs.declared.stmt.OwnEventR.{OwnEventR}
-use Rattle.caf_program.specs.declared.stmt.EventR.{EventR}
-use Rattle.caf_program.specs.declared.stmt.CopyEventR.{CopyEventR}
-use Rattle.caf_program.specs.declared.stmt.CopyEventR.TheVariants as role
+use Rattle.caf_program.specs.declared.parts.VariableR.{VariableR}
+use Rattle.caf_program.specs.declared.parts.VariableR.TheVariants as variable
+use Rattle.caf_program.specs.declared.parts.ActualR.{ActualR}
+use Rattle.caf_program.specs.declared.parts.ActualR.TheVariants as actual
+use Rattle.caf_program.specs.declared.parts.PrintR.{PrintR}
+use Rattle.caf_program.specs.declared.parts.PrintR.TheVariants as part
+use Rattle.caf_program.specs.declared.parts.RangeR.{RangeR}
+use Rattle.caf_program.specs.declared.parts.RegionR.{RegionR}
+use Rattle.caf_program.specs.declared.parts.SectionR.{SectionR}
+use Rattle.caf_program.specs.declared.parts.SectionR.TheVariants as section
+use Rattle.caf_program.specs.declared.parts.OwnEventR.{OwnEventR}
+use Rattle.caf_program.specs.declared.parts.EventR.{EventR}
+use Rattle.caf_program.specs.declared.parts.CopyEventR.{CopyEventR}
+use Rattle.caf_program.specs.declared.parts.CopyEventR.TheVariants as role
 use Rattle.caf_program.specs.declared.stmt.StmtR.{StmtR}
 use Rattle.caf_program.specs.declared.stmt.StmtR.TheOpen.{StmtR-F}
 use Rattle.caf_program.specs.declared.stmt.StmtR.TheFolds.{fold-StmtR}

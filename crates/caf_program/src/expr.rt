@@ -1,5 +1,8 @@
-use caf_base::{BinaryOperator, UnaryOperator};
+ghost use Rattle.std.specs.Prelude.{◌≡◌, IfOk};
+
+use caf_base::{BinaryOperator, Memory, UnaryOperator};
 use sqlite_items::{Boxed, Items};
+use std::alloc::Global;
 
 /// A team: `team_world`, or the one that an object of the main program holds.
 #[derive(Clone, Copy, Debug, PartialEq, Eq)]
@@ -44,4 +47,73 @@ pub enum ExprR {
     Rank(TeamR),
     /// `team_size`.
     Size(TeamR),
+}
+
+impl PlaceR<ExprR> {
+    /// The same place again.
+    pub fn copy(&self, alloc: Global) -> Result<PlaceR<ExprR>, Memory>
+        ensures { IfOk result (λ place. place ≡ self.now) }
+    {
+        let rank = self.rank.copy(alloc)?;
+        Ok(PlaceR {
+            rank,
+            team: self.team,
+        })
+    }
+}
+
+impl ExprR {
+    /// The same expression again.
+    pub fn copy(&self, alloc: Global) -> Result<ExprR, Memory>
+        ensures { IfOk result (λ e. e ≡ self.now) }
+    {
+        match self {
+            ExprR::Number(number) => Ok(ExprR::Number(*number)),
+            ExprR::Truth(holds) => Ok(ExprR::Truth(*holds)),
+            ExprR::Scalar(object) => Ok(ExprR::Scalar(*object)),
+            ExprR::Local(cell) => Ok(ExprR::Local(*cell)),
+            ExprR::Element(object, index) => {
+                let index = index.get().copy(alloc)?;
+                Ok(ExprR::Element(*object, Boxed::new(alloc, index)?))
+            }
+            ExprR::Coindexed {
+                object,
+                index,
+                place,
+            } => {
+                let index = index.get().copy(alloc)?;
+                let index = Boxed::new(alloc, index)?;
+                let rank = place.rank.get().copy(alloc)?;
+                let rank = Boxed::new(alloc, rank)?;
+                Ok(ExprR::Coindexed {
+                    object: *object,
+                    index,
+                    place: PlaceR {
+                        rank,
+                        team: place.team,
+                    },
+                })
+            }
+            ExprR::Pointed(copointer, index) => {
+                let index = index.get().copy(alloc)?;
+                Ok(ExprR::Pointed(*copointer, Boxed::new(alloc, index)?))
+            }
+            ExprR::Unary(operator, operand) => {
+                let operand = operand.get().copy(alloc)?;
+                Ok(ExprR::Unary(*operator, Boxed::new(alloc, operand)?))
+            }
+            ExprR::Chain(first, rest) => {
+                let first = first.get().copy(alloc)?;
+                let first = Boxed::new(alloc, first)?;
+                let mut copies = Items::new(alloc);
+                for (operator, operand) in rest.as_slice() {
+                    let operand = operand.copy(alloc)?;
+                    copies.push((*operator, operand))?;
+                }
+                Ok(ExprR::Chain(first, copies))
+            }
+            ExprR::Rank(team) => Ok(ExprR::Rank(*team)),
+            ExprR::Size(team) => Ok(ExprR::Size(*team)),
+        }
+    }
 }

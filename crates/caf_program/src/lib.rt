@@ -7,6 +7,7 @@
 mod accepted;
 mod evaluator;
 mod expr;
+mod parts;
 mod program;
 mod stmt;
 mod view;
@@ -14,9 +15,9 @@ mod view;
 pub use accepted::Accepted;
 pub use evaluator::eval;
 pub use expr::{ExprR, PlaceR, TeamR};
-pub use program::{DummyR, Intent, Program, SubR, ValueKind};
-pub use stmt::{
-    ActualR, CopyEventR, EventR, LoopVariableR, OwnEventR, PrintR, RangeR, RegionR, SectionR,
-    StmtR, VariableR,
+pub use parts::{
+    ActualR, CopyEventR, EventR, OwnEventR, PrintR, RangeR, RegionR, SectionR, VariableR,
 };
+pub use program::{DummyR, Intent, Program, SubR, ValueKind};
+pub use stmt::{LoopVariableR, StmtR, copy_block};
 pub use view::View;

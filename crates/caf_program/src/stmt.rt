@@ -1,98 +1,18 @@
-use crate::{ExprR, PlaceR, TeamR};
-use caf_base::{Down, Text};
-use sqlite_items::Items;
+ghost use Rattle.std.specs.Prelude.{◌≡◌, IfOk};
 
-/// A variable that an assignment writes. A scalar is the element at index 1.
-#[derive(Drop)]
-pub enum VariableR {
-    Scalar(u32),
-    Local(u32),
-    Element(u32, ExprR),
-    /// An element of a coarray at the image of the place.
-    Coindexed {
-        object: u32,
-        index: ExprR,
-        place: PlaceR<ExprR>,
-    },
-    /// An element of the section that a copointer aims at, counted from 1.
-    Pointed(u32, ExprR),
-}
+use crate::{
+    ActualR, CopyEventR, EventR, ExprR, OwnEventR, PlaceR, PrintR, RegionR, SectionR, TeamR,
+    VariableR,
+};
+use caf_base::{Down, Memory};
+use sqlite_items::Items;
+use std::alloc::Global;
 
 /// The variable of a `do`.
 #[derive(Clone, Copy, Debug, PartialEq, Eq)]
 pub enum LoopVariableR {
     Scalar(u32),
     Local(u32),
-}
-
-/// What stands for a dummy in a `call` or a `spawn`.
-#[derive(Drop)]
-pub enum ActualR {
-    /// For `intent(in)`: a value.
-    Value(ExprR),
-    /// For `intent(inout)`: a variable, whose value is copied in, and which the dummy is copied out to.
-    Scalar(u32),
-    Local(u32),
-    Element(u32, ExprR),
-}
-
-/// What `print` puts into its line.
-#[derive(Drop)]
-pub enum PrintR {
-    Number(ExprR),
-    Logical(ExprR),
-    Text(Text),
-}
-
-/// The elements of a section. A bound that is missing is that of the variable, or for a copointer 1 and its extent.
-#[derive(Drop)]
-pub enum RangeR {
-    All,
-    Cell(ExprR),
-    Between(ExprR, ExprR),
-    From(ExprR),
-    UpTo(ExprR),
-}
-
-/// Elements of a variable of the main program, at the image of the place, or at this image where it has none.
-#[derive(Drop)]
-pub struct RegionR {
-    pub object: u32,
-    pub range: RangeR,
-    pub place: Option<PlaceR<ExprR>>,
-}
-
-/// A section that is copied.
-#[derive(Drop)]
-pub enum SectionR {
-    Region(RegionR),
-    /// Elements of the section that a copointer aims at.
-    Pointed(u32, RangeR),
-}
-
-/// An event of this image.
-#[derive(Drop)]
-pub struct OwnEventR {
-    pub object: u32,
-    pub index: ExprR,
-}
-
-/// An event at the image of the place, or at this image where it has none.
-#[derive(Drop)]
-pub struct EventR {
-    pub own: OwnEventR,
-    pub place: Option<PlaceR<ExprR>>,
-}
-
-/// An event of an asynchronous copy.
-#[derive(Drop)]
-pub enum CopyEventR {
-    /// The copy needs its post before it starts.
-    Pre(OwnEventR),
-    /// It is posted when the source has been read.
-    Srce(EventR),
-    /// It is posted when the destination has been written.
-    Deste(EventR),
 }
 
 /// A statement, with the line that it begins on.
@@ -179,4 +99,232 @@ pub enum StmtR {
         team: TeamR,
         body: Items<StmtR>,
     },
+}
+
+/// The same parts again.
+fn copy_parts(alloc: Global, items: &[PrintR]) -> Result<Items<PrintR>, Memory>
+    ensures { IfOk result (λ copies. copies ≡ items.now) }
+{
+    let mut copies = Items::new(alloc);
+    for item in items {
+        let item = item.copy(alloc)?;
+        copies.push(item)?;
+    }
+    Ok(copies)
+}
+
+/// The same actuals again.
+fn copy_actuals(alloc: Global, items: &[ActualR]) -> Result<Items<ActualR>, Memory>
+    ensures { IfOk result (λ copies. copies ≡ items.now) }
+{
+    let mut copies = Items::new(alloc);
+    for item in items {
+        let item = item.copy(alloc)?;
+        copies.push(item)?;
+    }
+    Ok(copies)
+}
+
+/// The same events again.
+fn copy_events(alloc: Global, items: &[CopyEventR]) -> Result<Items<CopyEventR>, Memory>
+    ensures { IfOk result (λ copies. copies ≡ items.now) }
+{
+    let mut copies = Items::new(alloc);
+    for item in items {
+        let item = item.copy(alloc)?;
+        copies.push(item)?;
+    }
+    Ok(copies)
+}
+
+/// The same event again, if there is one.
+fn copy_done(alloc: Global, event: &Option<EventR>) -> Result<Option<EventR>, Memory>
+    ensures { IfOk result (λ copy. copy ≡ event.now) }
+{
+    match event {
+        None => Ok(None),
+        Some(event) => Ok(Some(event.copy(alloc)?)),
+    }
+}
+
+/// The same statements again.
+#[cycle(copies)]
+pub fn copy_block(alloc: Global, block: &[StmtR]) -> Result<Items<StmtR>, Memory>
+    ensures { IfOk result (λ copies. copies ≡ block.now) }
+{
+    let mut copies = Items::new(alloc);
+    for statement in block {
+        let statement = statement.copy(alloc)?;
+        copies.push(statement)?;
+    }
+    Ok(copies)
+}
+
+impl StmtR {
+    /// The same statement again.
+    #[cycle(copies)]
+    pub fn copy(&self, alloc: Global) -> Result<StmtR, Memory>
+        ensures { IfOk result (λ copy. copy ≡ self.now) }
+    {
+        match self {
+            StmtR::Assign {
+                line,
+                target,
+                value,
+            } => {
+                let target = target.copy(alloc)?;
+                let value = value.copy(alloc)?;
+                Ok(StmtR::Assign {
+                    line: *line,
+                    target,
+                    value,
+                })
+            }
+            StmtR::Aim {
+                line,
+                copointer,
+                region,
+            } => {
+                let region = region.copy(alloc)?;
+                Ok(StmtR::Aim {
+                    line: *line,
+                    copointer: *copointer,
+                    region,
+                })
+            }
+            StmtR::Print { line, parts } => {
+                let parts = copy_parts(alloc, parts.as_slice())?;
+                Ok(StmtR::Print { line: *line, parts })
+            }
+            StmtR::If {
+                line,
+                condition,
+                block,
+                otherwise,
+            } => {
+                let condition = condition.copy(alloc)?;
+                let block = copy_block(alloc, block.as_slice())?;
+                let otherwise = copy_block(alloc, otherwise.as_slice())?;
+                Ok(StmtR::If {
+                    line: *line,
+                    condition,
+                    block,
+                    otherwise,
+                })
+            }
+            StmtR::Do {
+                line,
+                variable,
+                first,
+                last,
+                step,
+                body,
+            } => {
+                let first = first.copy(alloc)?;
+                let last = last.copy(alloc)?;
+                let step = step.copy(alloc)?;
+                let body = copy_block(alloc, body.as_slice())?;
+                Ok(StmtR::Do {
+                    line: *line,
+                    variable: *variable,
+                    first,
+                    last,
+                    step,
+                    body,
+                })
+            }
+            StmtR::While {
+                line,
+                condition,
+                body,
+            } => {
+                let condition = condition.copy(alloc)?;
+                let body = copy_block(alloc, body.as_slice())?;
+                Ok(StmtR::While {
+                    line: *line,
+                    condition,
+                    body,
+                })
+            }
+            StmtR::Call { line, sub, actuals } => {
+                let actuals = copy_actuals(alloc, actuals.as_slice())?;
+                Ok(StmtR::Call {
+                    line: *line,
+                    sub: *sub,
+                    actuals,
+                })
+            }
+            StmtR::Spawn {
+                line,
+                done,
+                sub,
+                actuals,
+                place,
+            } => {
+                let done = copy_done(alloc, done)?;
+                let actuals = copy_actuals(alloc, actuals.as_slice())?;
+                let place = place.copy(alloc)?;
+                Ok(StmtR::Spawn {
+                    line: *line,
+                    done,
+                    sub: *sub,
+                    actuals,
+                    place,
+                })
+            }
+            StmtR::Notify { line, event } => {
+                let event = event.copy(alloc)?;
+                Ok(StmtR::Notify { line: *line, event })
+            }
+            StmtR::Wait { line, event } => {
+                let event = event.copy(alloc)?;
+                Ok(StmtR::Wait { line: *line, event })
+            }
+            StmtR::Copy {
+                line,
+                dest,
+                source,
+                events,
+            } => {
+                let dest = dest.copy(alloc)?;
+                let source = source.copy(alloc)?;
+                let events = copy_events(alloc, events.as_slice())?;
+                Ok(StmtR::Copy {
+                    line: *line,
+                    dest,
+                    source,
+                    events,
+                })
+            }
+            StmtR::Cofence { line, down } => Ok(StmtR::Cofence {
+                line: *line,
+                down: *down,
+            }),
+            StmtR::Split {
+                line,
+                team,
+                colour,
+                key,
+                new,
+            } => {
+                let colour = colour.copy(alloc)?;
+                let key = key.copy(alloc)?;
+                Ok(StmtR::Split {
+                    line: *line,
+                    team: *team,
+                    colour,
+                    key,
+                    new: *new,
+                })
+            }
+            StmtR::Finish { line, team, body } => {
+                let body = copy_block(alloc, body.as_slice())?;
+                Ok(StmtR::Finish {
+                    line: *line,
+                    team: *team,
+                    body,
+                })
+            }
+        }
+    }
 }
