@@ -1,4 +1,5 @@
 ghost use Rattle.std.specs.Prelude.{◌≡◌, ◌+◌, ◌≤◌, ◌^◌, ◌<◌, length, OnOk};
+ghost use Rattle.caf_program.specs.Seen.{held};
 ghost use Rattle.caf_program.specs.View.{seen};
 ghost use Rattle.caf_program.specs.Value.{value, value_at, count};
 
@@ -16,8 +17,9 @@ pub fn eval(e: &ExprR, view: &View) -> Result<i64, Trap>
     eval_from(e, view, &mut at)
 }
 
-/// The value of an expression whose first held value stands at `at`, which goes past its held values.
-fn eval_from(e: &ExprR, view: &View, at: &mut usize) -> Result<i64, Trap>
+/// The value of an expression among others of its statement, as that of [`eval`]: its first held value stands at
+/// `at`, which then goes past its held values.
+pub fn eval_from(e: &ExprR, view: &View, at: &mut usize) -> Result<i64, Trap>
     requires { at.old + count e.now ≤ length view.now.held.now }
     ensures value { result ≡ value_at e.now at.old (seen view.now) }
     ensures at { OnOk result (at.new ≡ at.old + count e.now) }
@@ -32,17 +34,13 @@ fn eval_from(e: &ExprR, view: &View, at: &mut usize) -> Result<i64, Trap>
             view.element(*object, index)
         }
         ExprR::Coindexed { index, place, .. } => {
-            skip(index.get(), at);
-            skip(place.rank.get(), at);
-            let value = view.held(*at);
-            *at += 1;
-            Ok(value)
+            skip_held(index.get(), at);
+            skip_held(place.rank.get(), at);
+            Ok(next_held(view, at))
         }
         ExprR::Pointed(_, index) => {
-            skip(index.get(), at);
-            let value = view.held(*at);
-            *at += 1;
-            Ok(value)
+            skip_held(index.get(), at);
+            Ok(next_held(view, at))
         }
         ExprR::Unary(operator, operand) => {
             let operand = eval_from(operand.get(), view, at)?;
@@ -61,29 +59,40 @@ fn eval_from(e: &ExprR, view: &View, at: &mut usize) -> Result<i64, Trap>
     }
 }
 
-/// Goes past the held values of an expression.
-fn skip(e: &ExprR, at: &mut usize)
+/// The held value at `at`, which goes past it.
+fn next_held(view: &View, at: &mut usize) -> i64
+    requires { at.old < length view.now.held.now }
+    ensures value { result ≡ held (seen view.now) at.old }
+    ensures at { at.new ≡ at.old + 1 }
+{
+    let value = view.held(*at);
+    *at += 1;
+    value
+}
+
+/// Goes past the held values of an expression, which begin at `at`.
+pub fn skip_held(e: &ExprR, at: &mut usize)
     requires { at.old + count e.now < 2 ^ 64 }
     ensures { at.new ≡ at.old + count e.now }
 {
     match e {
         ExprR::Number(_) | ExprR::Truth(_) | ExprR::Scalar(_) | ExprR::Local(_) => {}
         ExprR::Rank(_) | ExprR::Size(_) => {}
-        ExprR::Element(_, index) => skip(index.get(), at),
+        ExprR::Element(_, index) => skip_held(index.get(), at),
         ExprR::Coindexed { index, place, .. } => {
-            skip(index.get(), at);
-            skip(place.rank.get(), at);
+            skip_held(index.get(), at);
+            skip_held(place.rank.get(), at);
             *at += 1;
         }
         ExprR::Pointed(_, index) => {
-            skip(index.get(), at);
+            skip_held(index.get(), at);
             *at += 1;
         }
-        ExprR::Unary(_, operand) => skip(operand.get(), at),
+        ExprR::Unary(_, operand) => skip_held(operand.get(), at),
         ExprR::Chain(first, rest) => {
-            skip(first.get(), at);
+            skip_held(first.get(), at);
             for (_, operand) in rest.as_slice() {
-                skip(operand, at);
+                skip_held(operand, at);
             }
         }
     }

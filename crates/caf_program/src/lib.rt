@@ -9,11 +9,12 @@ mod evaluator;
 mod expr;
 mod parts;
 mod program;
+mod read;
 mod stmt;
 mod view;
 
 pub use accepted::Accepted;
-pub use evaluator::eval;
+pub use evaluator::{eval, eval_from, skip_held};
 pub use expr::{ExprR, PlaceR, TeamR};
 pub use parts::{
     ActualR, CopyEventR, EventR, OwnEventR, PrintR, RangeR, RegionR, SectionR, VariableR,
@@ -21,3 +22,6 @@ pub use parts::{
 pub use program::{DummyR, Intent, Program, SubR, ValueKind};
 pub use stmt::{LoopVariableR, StmtR, copy_block};
 pub use view::View;
+
+#[cfg(test)]
+mod tests;
