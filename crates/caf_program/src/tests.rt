@@ -1,5 +1,8 @@
-use crate::{Accepted, ExprR, PlaceR, Program, TeamR, View, eval};
-use caf_base::{BinaryOperator, Kind, Object, Sequence, Team, Trap, UnaryOperator};
+use crate::{
+    Accepted, ActualR, DummyR, ExprR, Intent, PlaceR, PrintR, Program, StmtR, SubR, TeamR,
+    ValueKind, View, copy_block, eval,
+};
+use caf_base::{BinaryOperator, Kind, Memory, Object, Sequence, Team, Text, Trap, UnaryOperator};
 use sqlite_items::{Boxed, Items};
 use std::alloc::{AllocError, Global};
 use std::process::Abort;
@@ -178,15 +181,61 @@ fn elements_values_read_and_teams_come_from_the_view(rt: HostRuntime) -> Result<
     Ok(())
 }
 
-#[test]
-fn a_program_without_statements_is_accepted(rt: HostRuntime) -> Result<(), Fail> {
-    let alloc = rt.alloc();
-    let accepted = Accepted::of(Program {
+/// A program that ships `f(7)` to image 1, where `f(k)` prints `k`.
+fn shipping(alloc: Global) -> Result<Accepted, Memory> {
+    let mut parts = Items::new(alloc);
+    parts.push(PrintR::Number(ExprR::Local(0)))?;
+    let mut printing = Items::new(alloc);
+    printing.push(StmtR::Print { line: 5, parts })?;
+    let mut dummies = Sequence::new(alloc);
+    dummies.push(DummyR {
+        name: Text::copy_of(alloc, "k")?,
+        kind: ValueKind::Integer,
+        intent: Intent::In,
+    })?;
+    let mut subs = Sequence::new(alloc);
+    subs.push(SubR {
+        name: Text::copy_of(alloc, "f")?,
+        dummies,
+        locals: Sequence::new(alloc),
+        body: printing,
+    })?;
+    let mut actuals = Items::new(alloc);
+    actuals.push(ActualR::Value(ExprR::Number(7)))?;
+    let (rank, team) = (ExprR::Number(1), TeamR::World);
+    let mut body = Items::new(alloc);
+    body.push(StmtR::Spawn {
+        line: 2,
+        done: None,
+        sub: 0,
+        actuals,
+        place: PlaceR { rank, team },
+    })?;
+    Ok(Accepted::of(Program {
         objects: Sequence::new(alloc),
         names: Sequence::new(alloc),
-        subs: Sequence::new(alloc),
-        body: Items::new(alloc),
-    });
-    assert_eq!(rt; accepted.program().body.len(), 0);
+        subs,
+        body,
+    }))
+}
+
+#[test]
+fn a_program_that_ships_is_accepted_and_its_statements_are_copied(
+    rt: HostRuntime,
+) -> Result<(), Fail> {
+    let alloc = rt.alloc();
+    let accepted = shipping(alloc)?;
+    let copies = copy_block(alloc, accepted.program().body.as_slice())?;
+    assert_eq!(rt; copies.len(), 1);
+    assert!(rt;
+        matches!(
+            copies.get(0),
+            Some(StmtR::Spawn {
+                line: 2,
+                sub: 0,
+                ..
+            })
+        )
+    );
     Ok(())
 }
