@@ -1,5 +1,5 @@
 pub mod Trap
 pub mod Arithmetic
 pub mod ImageMemory
-pub mod Team
 pub mod FinishRef
+pub mod Element

@@ -21,7 +21,7 @@ pub use effect::{Effect, Need};
 pub use four::Four;
 pub use memory::Memory;
 pub use object::{Kind, Object};
-pub use operation::{CopyOrder, EventAt, OpName, OpSpec, Section, Stage};
+pub use operation::{CopyOrder, Down, EventAt, OpName, OpSpec, Section, Stage};
 pub use sequence::Sequence;
 pub use summary::{Ending, ImageSummary, Summary};
 pub use team::{FinishRef, Team};
