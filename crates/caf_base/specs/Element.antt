@@ -1,5 +1,5 @@
--- Elements of objects, and ranks: what expressions and statements read alike.
-use Rattle.std.specs.Prelude.{ℕ, Bool, ◌&&◌, ◌==◌, List, [], Option, Some, None, Ok, Err, ℤ, pos, ◌+ℤ◌, ◌-ℤ◌, int_lt, int_le, unsigned_abs, slice_get, slice_index_or, position, unwrap_or, if◌then◌else◌}
+-- Elements of objects: what expressions and statements read alike.
+use Rattle.std.specs.Prelude.{ℕ, Bool, ◌&&◌, List, [], Option, Some, None, Ok, Err, ℤ, pos, ◌+ℤ◌, ◌-ℤ◌, int_lt, int_le, unsigned_abs, slice_get, slice_index_or, if◌then◌else◌}
 use Rattle.caf_base.specs.declared.object.Object.{Object}
 use Rattle.caf_base.specs.declared.trap.Trap.TheVariants as trap
 use Rattle.caf_base.specs.Arithmetic.{Answer}
@@ -20,7 +20,3 @@ element_at (Some o) row index = if has_index o index then Ok (slice_index_or row
 -- the element of an object at an index, where these are the objects and their cells
 abbrev pub element_of : List Object → List (List ℤ) → ℕ → ℤ → Answer
 element_of objects cells object index = element_at (slice_get objects object) (slice_index_or cells object []) index
-
--- the rank of an image among the members of a team: its first place
-abbrev pub rank_in : List ℕ → ℕ → ℕ
-rank_in members image = unwrap_or (position (λ member. member == image) members) 0

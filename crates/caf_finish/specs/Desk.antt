@@ -1,10 +1,10 @@
 -- The finishes that an image knows, as a finite map from finishes to accounts.
-use Rattle.std.specs.Prelude.{◌≡◌, ◌≢◌, ℕ, ◌<◌, Bool, List, length, Option, IsSomeAnd, unwrap_or}
+use Rattle.std.specs.Prelude.{◌≡◌, ◌≢◌, ℕ, ◌<◌, Bool, List, length, Option, IsSomeAnd}
 use Rattle.std.specs.List.{find, position_or_len}
 use Rattle.std.specs.Option.{option_map}
 use Rattle.caf_base.specs.declared.team.FinishRef.{FinishRef}
 use Rattle.caf_base.specs.FinishRef.{same_finish}
-use Rattle.caf_base.specs.Team.{rank_in}
+use Rattle.caf_base.specs.Team.{rank_or_first}
 use Rattle.caf_finish.specs.declared.known.Known.{Known}
 use Rattle.caf_finish.specs.Account.{Account, first_account}
 
@@ -35,7 +35,7 @@ At desk f P = IsSomeAnd (account_at desk f) P
 
 -- the account of a finish that becomes known
 abbrev pub new_account : ℕ → FinishRef → Account
-new_account image f = first_account (length f.team.members) (unwrap_or (rank_in f.team.members image) 0)
+new_account image f = first_account (length f.team.members) (rank_or_first f.team.members image)
 
 -- the finish has this account now, or none, and all else is as before
 pub record Puts (old new : Desk) (f : FinishRef) (account : Option Account) : Type 0 where

@@ -4,7 +4,8 @@ use Rattle.caf_base.specs.declared.object.Object.{Object}
 use Rattle.caf_base.specs.declared.team.Team.{Team}
 use Rattle.caf_base.specs.declared.trap.Trap.TheVariants as trap
 use Rattle.caf_base.specs.Arithmetic.{Answer}
-use Rattle.caf_base.specs.Element.{element_of, rank_in}
+use Rattle.caf_base.specs.Element.{element_of}
+use Rattle.caf_base.specs.Team.{rank_or_first}
 use Rattle.caf_program.specs.declared.expr.TeamR.{TeamR}
 use Rattle.caf_program.specs.declared.expr.TeamR.TheVariants as team
 
@@ -40,7 +41,7 @@ held s at = slice_index_or s.held at (pos 0)
 
 abbrev pub rank_among : Option Team → ℕ → Answer
 rank_among None image = Err trap.Team
-rank_among (Some t) image = Ok (pos (rank_in t.members image))
+rank_among (Some t) image = Ok (pos (rank_or_first t.members image))
 
 abbrev pub size_of : Option Team → Answer
 size_of None = Err trap.Team

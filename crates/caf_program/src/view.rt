@@ -1,6 +1,7 @@
 ghost use Rattle.std.specs.Prelude.{◌≡◌, ◌==◌, [], length, position, slice_get, slice_index_or, pos};
 ghost use Rattle.std.specs.Option.{option_copied};
-ghost use Rattle.caf_base.specs.Element.{element_at, rank_in};
+ghost use Rattle.caf_base.specs.Element.{element_at};
+ghost use Rattle.caf_base.specs.Team.{rank_or_first};
 ghost use Rattle.caf_program.specs.Seen.{element, scalar, local, held, team_rank, team_size};
 ghost use Rattle.caf_program.specs.View.{seen};
 
@@ -138,7 +139,7 @@ impl View<'_> {
 
 /// The first place of an image among members, or 0 where it is no member.
 fn rank(members: &[u32], image: u32) -> i64
-    ensures { result ≡ pos (rank_in members.now image) }
+    ensures { result ≡ pos (rank_or_first members.now image) }
 {
     match place(members, image) {
         Some(at) => at as i64,
