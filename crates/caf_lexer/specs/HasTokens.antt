@@ -1,4 +1,5 @@
--- What it means that a text has these tokens, or this first fault, told by lines and longest spellings.
+-- What it means that a text has these tokens, told by lines and longest spellings, or this first fault. How lines are
+-- continued, and which `End` is left out, is as it is computed, and so is the fault of a line that has one.
 use Rattle.std.specs.Prelude.{◌≡◌, ℕ, ◌+◌, ◌-◌, ◌≤◌, Bool, true, false, ◌⊎◌, List, [], ◌∷◌, ◌++◌, length, Ok, Err}
 use Rattle.caf_lexer.specs.declared.token.Token.{Token}
 use Rattle.caf_lexer.specs.declared.fault.LexFault.{LexFault}

@@ -30,7 +30,7 @@ abbrev pub after_token : Token → Given → Given
 after_token token (Ok given) = Ok (token ∷ given.0, given.1)
 after_token token (Err fault) = Err fault
 
--- A `&` stands last, and then the statement goes on. A line that no `&` ends gives `End`.
+-- A `&` stands last, and then the statement goes on; elsewhere it is a mistake. A line that no `&` ends gives `End`.
 abbrev pub rest_of : ℕ → List Piece → Given
 rest_of n [] = Ok (token_at n what.End ∷ [], false)
 rest_of n (piece.Token w ∷ others) = after_token (token_at n w) (rest_of n others)

@@ -49,7 +49,8 @@ fn next_line(bytes: &[u8]) -> (&[u8], &[u8])
     (without_return(line), rest)
 }
 
-/// The tokens of a text, or its first fault. The time is proportional to the text.
+/// The tokens of a text, or its first fault. The time is proportional to the text, of which there is less than 4 GiB, so
+/// that the numbers of its lines fit.
 #[tactic(auto, unfolding(crate::specs::Tokens::tokens_of))]
 pub fn tokens(alloc: Global, bytes: &[u8]) -> Result<Sequence<Token>, LexFault>
     requires { length bytes.now < 2 ^ 32 }
