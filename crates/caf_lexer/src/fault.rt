@@ -13,7 +13,8 @@ pub enum LexFault {
     /// A line of more than 132 bytes, comments included.
     #[error("line {0}: long line")]
     LongLine(u32),
-    /// Bytes that are no token, a name of more than 63 bytes, a text that isn't closed in time, or a `&` at a wrong place.
+    /// Bytes that are no token, a name of more than 63 bytes, a text that isn't closed in time, or a `&` at a wrong
+    /// place.
     #[error("line {0}: bad token")]
     BadToken(u32),
     /// A number above 9,223,372,036,854,775,807.

@@ -18,9 +18,10 @@ pub fn pieces_are_longest_spellings()
     ensures only { (line : List ℕ) (found : List Piece) → IsCut line found → found ≡ pieces line }
 {}
 
-/// Each text has a list of tokens, told by whole lines and longest spellings, or a first fault. The fault is that of the
-/// first line which has one, behind lines that give tokens; in its line it is the first from left to right, as it is
-/// computed. A text has one of the two alone, which is the one that is computed, and which [`tokens`](crate::tokens) answers.
+/// Each text has a list of tokens, told by whole lines and longest spellings, or a first fault. The fault is that of
+/// the first line which has one, behind lines that give tokens; in its line it is the first from left to right, as it
+/// is computed. A text has one of the two alone, which is the one that is computed, and which
+/// [`tokens`](crate::tokens) answers.
 pub fn each_text_has_tokens_or_a_fault()
     ensures one { (text : List ℕ) → ((tokens : List Token) × HasTokens text tokens) ⊎ ((fault : LexFault) × HasFault text fault) }
     ensures tokens { (text : List ℕ) (tokens : List Token) → HasTokens text tokens ↔ (tokens_of text ≡ Ok tokens) }
