@@ -1,4 +1,4 @@
-ghost use Rattle.std.specs.Prelude.{◌≡◌, ◌<◌, ◌^◌, true, length, Some, None, IsSome, OnOk, OnErr, Contains, unwrap_or, is_some};
+ghost use Rattle.std.specs.Prelude.{◌≡◌, ◌<◌, ◌^◌, true, length, Some, None, IsSome, IsOk, OnOk, OnErr, Contains, unwrap_or, is_some};
 ghost use Rattle.std.specs.List.{position};
 ghost use Rattle.std.specs.Option.{option_map};
 ghost use Rattle.caf_base.specs.declared.team.FinishRef.{FinishRef};
@@ -62,6 +62,8 @@ impl FinishDesk {
         requires few { length f.now.team.members < 2 ^ 32 }
         ensures known { OnOk result (Puts self.old self.new f.now (Some (unwrap_or (account_at self.old f.now) (new_account self.old.image f.now)))) }
         ensures err { OnErr result (self.new ≡ self.old) }
+        // A finish that is known takes no memory.
+        ensures again { IsSome (account_at self.old f.now) → IsOk result }
     {
         if self.knows(f) {
             return Ok(());
