@@ -4,3 +4,12 @@ pub mod ImageMemory
 pub mod Team
 pub mod FinishRef
 pub mod Element
+pub mod Places
+pub mod Line
+pub mod Groups
+pub mod Start
+pub mod Sections
+pub mod Operations
+pub mod Orders
+pub mod After
+pub mod Fence

@@ -6,11 +6,14 @@
 
 mod arithmetic;
 mod effect;
+mod fence;
 mod four;
 mod memory;
 mod object;
 mod operation;
+mod place;
 mod sequence;
+mod stack;
 mod summary;
 mod team;
 mod text;
@@ -18,11 +21,14 @@ mod trap;
 
 pub use arithmetic::{BinaryOperator, UnaryOperator, iteration_count, truth};
 pub use effect::{Effect, Need};
+pub use fence::{Down, FenceClear};
 pub use four::Four;
 pub use memory::Memory;
 pub use object::{Kind, Object};
-pub use operation::{CopyOrder, Down, EventAt, OpName, OpSpec, Section, Stage};
+pub use operation::{CopyOrder, EventAt, OpName, OpSpec, Section, Stage};
+pub use place::{CopyEvents, EventWanted, Place, SectionRange, SectionWanted};
 pub use sequence::Sequence;
+pub use stack::Stack;
 pub use summary::{Ending, ImageSummary, Summary};
 pub use team::{FinishRef, Team};
 pub use text::Text;

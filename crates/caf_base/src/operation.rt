@@ -79,14 +79,3 @@ pub enum OpSpec {
     /// A blocking write of one element.
     Write(Section, i64),
 }
-
-/// Which local accesses of the task's implicit copies a `cofence` lets stay open.
-#[derive(Clone, Copy, Debug, PartialEq, Eq)]
-pub enum Down {
-    Nothing,
-    /// Reads of a source.
-    Read,
-    /// Writes of a destination.
-    Write,
-    Any,
-}
