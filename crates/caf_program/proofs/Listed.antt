@@ -1,10 +1,12 @@
 -- An expression has as many reads in its list as values that it holds.
-use Rattle.std.proofs.Common.{◌≡◌, ℕ, ◌+◌, List, [], ◌∷◌, ◌++◌, length, map, refl, sym, subst, arith, length-append}
+use Rattle.std.proofs.lemmas.Option.{slice_get_past}
+use Rattle.std.proofs.Common.{◌≡◌, ℕ, ◌+◌, ◌≤◌, None, slice_get, List, [], ◌∷◌, ◌++◌, length, map, refl, sym, subst, arith, length-append}
 use Rattle.caf_base.specs.declared.arithmetic.BinaryOperator.{BinaryOperator}
 use Rattle.caf_program.specs.declared.expr.ExprR.{ExprR}
 use Rattle.caf_program.specs.declared.expr.ExprR.TheOpen.{ExprR-F}
 use Rattle.caf_program.specs.declared.expr.ExprR.TheFolds.{ind-ExprR, fold-roll-ExprR, map-ExprR}
 use Rattle.caf_program.specs.declared.expr.ExprR.TheViews.{roll-ExprR}
+use Rattle.caf_program.specs.Expressions.{count_all, reads_all}
 use Rattle.caf_program.specs.Value.{Read, Meaning, Operand, counts, chain_reads, layer, meaning, count, reads_at}
 
 abbrev IsListed : Meaning → Type 0
@@ -53,3 +55,13 @@ listed = ind-ExprR (λ e. IsListed (meaning e)) (λ x y is.
     let P : ExprR-F ExprR → Type 0 = λ z. IsListed (meaning (roll-ExprR z)) in
     let z : ExprR-F ExprR = map-ExprR Kid ExprR (λ e. e.0) y in
     subst P is (subst IsListed (sym (fold-roll-ExprR Meaning layer z)) (listed_layer y)))
+
+pub all_listed : (es : List ExprR) (at : ℕ) → length (reads_all es at) ≡ count_all es
+all_listed [] at = refl
+all_listed (e ∷ rest) at =
+    let front = reads_at e at in
+    let back = reads_all rest (at + count e) in
+    omega (arith, length-append front back, listed e at, all_listed rest (at + count e))
+
+pub past_reads : (es : List ExprR) (at held : ℕ) → count_all es ≤ held → slice_get (reads_all es at) held ≡ None
+past_reads es at held le = slice_get_past (reads_all es at) held (subst (λ n. n ≤ held) (sym (all_listed es at)) le)

@@ -73,7 +73,7 @@ abbrev pub of_done : Option EventR → List ExprR
 of_done None = []
 of_done (Some e) = of_event e
 
-abbrev pub of_form : StmtR-F StmtR → List ExprR
+abbrev pub of_form : {A : Type 0} → StmtR-F A → List ExprR
 of_form (StmtR-F.Assign line v e) = of_variable v ++ (e ∷ [])
 of_form (StmtR-F.Aim line c r) = of_region r
 of_form (StmtR-F.Print line parts) = flat_map of_part parts

@@ -20,6 +20,7 @@ pub use parts::{
     ActualR, CopyEventR, EventR, OwnEventR, PrintR, RangeR, RegionR, SectionR, VariableR,
 };
 pub use program::{DummyR, Intent, Program, SubR, ValueKind};
+pub use read::each_held_value_has_its_read;
 pub use stmt::{LoopVariableR, StmtR, copy_block};
 pub use view::View;
 

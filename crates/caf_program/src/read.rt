@@ -1,4 +1,6 @@
-ghost use Rattle.std.specs.Prelude.{◌≡◌, ◌≤◌, ◌^◌, ℕ, length, IfSome, IfNone};
+ghost use Rattle.std.specs.Prelude.{◌≡◌, ◌≤◌, ◌^◌, ℕ, List, None, length, slice_get, IfSome, IfNone};
+ghost use Rattle.caf_program.specs.declared.expr.ExprR.{ExprR};
+ghost use Rattle.caf_program.specs.Expressions.{count_all, reads_all};
 ghost use Rattle.caf_program.specs.Value.{count, reads_at};
 
 use crate::ExprR;
@@ -41,3 +43,11 @@ fn count_from(e: &ExprR) -> Option<usize>
         }
     }
 }
+
+/// The law that a list of expressions has one read for each value that it holds: so none is left where as many values
+/// are held already.
+#[tactic(auto, using(crate::proofs::Listed::all_listed, crate::proofs::Listed::past_reads))]
+pub fn each_held_value_has_its_read()
+    ensures listed { (es : List ExprR) (at : ℕ) → length (reads_all es at) ≡ count_all es }
+    ensures past { (es : List ExprR) (at : ℕ) (held : ℕ) → count_all es ≤ held → slice_get (reads_all es at) held ≡ None }
+{}
