@@ -1,0 +1,3 @@
+pub mod Sized
+pub mod Spliced
+pub mod Room

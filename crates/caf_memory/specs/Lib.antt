@@ -1,0 +1,4 @@
+pub mod Sized
+pub mod Bounds
+pub mod Kept
+pub mod Faults
