@@ -1,0 +1,5 @@
+mod Found
+mod Last
+mod Plain
+mod Steps
+mod Blocking

@@ -1,0 +1,14 @@
+pub mod Finds
+pub mod Task
+pub mod Evaluated
+pub mod Step
+pub mod Plain
+pub mod Stood
+pub mod Variables
+pub mod State
+pub mod Next
+pub mod Run
+pub mod Stepping
+pub mod Built
+pub mod Kept
+pub mod Ending
