@@ -8,6 +8,7 @@
 mod code;
 mod instr;
 mod listing;
+mod print;
 mod task;
 
 pub use code::Code;
@@ -16,4 +17,5 @@ pub use instr::{
     RangeForm, Reach, Relation, Role, SectionForm, SectionUse, TeamName, TeamQuery,
 };
 pub use listing::{Listing, SubCode};
+pub use print::print_listing;
 pub use task::{CopyOut, CopyTarget, Listed, Loop, Wait};
