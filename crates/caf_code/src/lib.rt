@@ -8,6 +8,7 @@
 mod code;
 mod instr;
 mod listing;
+mod operator;
 mod print;
 mod task;
 
@@ -19,3 +20,6 @@ pub use instr::{
 pub use listing::{Listing, SubCode};
 pub use print::print_listing;
 pub use task::{CopyOut, CopyTarget, Listed, Loop, Wait};
+
+#[cfg(test)]
+mod tests;

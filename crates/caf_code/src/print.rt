@@ -29,7 +29,8 @@ ghost use Rattle.caf_code.specs.Listing.{
 
 use crate::{
     Arithmetic, CellUse, Code, ElementForm, EventUse, Instr, Listing, Logical, OutForm, PlaceForm,
-    Printed, RangeForm, Reach, Relation, Role, SectionForm, SectionUse, SubCode, TeamName, TeamQuery,
+    Printed, RangeForm, Reach, Relation, Role, SectionForm, SectionUse, SubCode, TeamName,
+    TeamQuery,
 };
 use caf_base::{Down, Kind, Memory, Object, Text};
 use itoa::{Buffer, Integer};
@@ -240,11 +241,17 @@ fn push_instr(text: &mut Vec<u8>, instr: Instr) -> Result<(), Memory>
         Instr::Enter(address) => push_named(text, b"enter", address),
         Instr::StepBy => push_bytes(text, b"stepby"),
         Instr::Again(address) => push_named(text, b"again", address),
-        Instr::Ask(ElementForm::Coindexed(object, place)) => push_placed(text, b"ask", object, place),
+        Instr::Ask(ElementForm::Coindexed(object, place)) => push_placed(
+            text, b"ask", object, place,
+        ),
         Instr::Ask(ElementForm::Pointed(copointer)) => push_named(text, b"askp", copointer),
-        Instr::Put(ElementForm::Coindexed(object, place)) => push_placed(text, b"put", object, place),
+        Instr::Put(ElementForm::Coindexed(object, place)) => push_placed(
+            text, b"put", object, place,
+        ),
         Instr::Put(ElementForm::Pointed(copointer)) => push_named(text, b"putp", copointer),
-        Instr::Section(SectionForm::Region(object, range, place)) => push_region(text, object, range, place),
+        Instr::Section(SectionForm::Region(object, range, place)) => push_region(
+            text, object, range, place,
+        ),
         Instr::Section(SectionForm::Pointed(copointer, range)) => {
             push_named(text, b"sectp", copointer)?;
             push_bytes(text, range_bytes(range))
@@ -255,7 +262,9 @@ fn push_instr(text: &mut Vec<u8>, instr: Instr) -> Result<(), Memory>
         }
         Instr::Use(SectionUse::Aim(copointer)) => push_named(text, b"aim", copointer),
         Instr::Use(SectionUse::Copy) => push_bytes(text, b"copy"),
-        Instr::Event(EventUse::Notify(object, place)) => push_placed(text, b"notify", object, place),
+        Instr::Event(EventUse::Notify(object, place)) => push_placed(
+            text, b"notify", object, place,
+        ),
         Instr::Event(EventUse::Wait(object)) => push_named(text, b"wait", object),
         Instr::Cofence(class) => push_cofence(text, class),
         Instr::Spawn(sub, place) => push_placed(text, b"spawn", sub, place),
@@ -312,7 +321,12 @@ fn push_place(text: &mut Vec<u8>, place: PlaceForm) -> Result<(), Memory>
     }
 }
 
-fn push_region(text: &mut Vec<u8>, object: u32, range: RangeForm, place: PlaceForm) -> Result<(), Memory>
+fn push_region(
+    text: &mut Vec<u8>,
+    object: u32,
+    range: RangeForm,
+    place: PlaceForm,
+) -> Result<(), Memory>
     ensures { OnOk result (text.new.items ≡ text.old.items ++ (named (codes "sect") object ++ range_text range ++ place_text place)) }
 {
     push_named(text, b"sect", object)?;
