@@ -11,3 +11,4 @@ pub mod Shapes
 pub mod Rules
 pub mod Sound
 pub mod Listing
+pub mod Examples

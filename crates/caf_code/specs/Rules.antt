@@ -1,6 +1,6 @@
 -- The rules that a code keeps.
-use Rattle.std.specs.Prelude.{◌≡◌, ℕ, zero, suc, ◌+◌, ◌<◌, ◌^◌, Bool, true, false, ◌&&◌, nat_lt, List, length, All, Option, Some, None, is_none, pos, ◌+ℤ◌, int_le, IsTrue, slice_get}
-use Rattle.std.specs.List.{list_all}
+use Rattle.std.specs.Prelude.{◌≡◌, ℕ, zero, suc, ◌+◌, ◌<◌, ◌^◌, Bool, true, false, ◌&&◌, nat_lt, List, length, Option, Some, None, is_none, pos, ◌+ℤ◌, int_le, IsTrue, slice_get}
+use Rattle.std.specs.List.{AllByRecursion, list_all}
 use Rattle.caf_base.specs.declared.object.Kind.{Kind}
 use Rattle.caf_base.specs.declared.object.Kind.TheVariants as kind
 use Rattle.caf_base.specs.declared.object.Object.{Object}
@@ -209,7 +209,7 @@ Stands shapes p w = shapes p w.0 ≡ Some w.1
 -- an instruction leads to the shapes that stand where it leads
 abbrev pub LeadOn : Shapes → Part → Option Ways → Type 0
 LeadOn shapes p None = ⊥
-LeadOn shapes p (Some ways) = All (Stands shapes p) ways
+LeadOn shapes p (Some ways) = AllByRecursion (Stands shapes p) ways
 
 -- what the rules say of the addresses that can be reached
 pub record AreShapes (code : Listing) (shapes : Shapes) : Type 0 where

@@ -1,6 +1,11 @@
+ghost use Rattle.std.specs.Prelude.{◌≡◌, ◌∷◌, [], codes, length, slice_get, Some, IfOk};
+ghost use Rattle.caf_base.specs.declared.effect.Effect.TheVariants as effect;
+ghost use Rattle.caf_base.specs.declared.trap.Trap.TheVariants as trap;
+ghost use Rattle.caf_code.specs.Examples.{alone, calls_code, loops_code, sums_code};
+
 use super::*;
 use crate::print::text_of;
-use caf_base::{Down, Kind, Object, Sequence, Text};
+use caf_base::{Down, Kind, Memory, Object, Sequence, Text};
 use std::alloc::Global;
 use std::test::Fail;
 
@@ -160,5 +165,161 @@ fn each_row_prints_as_the_format_says(rt: HostRuntime) -> Result<(), Fail> {
         62: finisht 3\n63: close\n64: split world 3\n65: split team 3 3\n66: outs 0\n67: outx 1\n68: outl 9\n\
         69: call 1\n70: ret\n71: printn\n72: printl\n73: printt 1\n74: line\n75: halt\n";
     assert_eq!(rt; text_of(alloc, &listing)?.as_slice(), wanted.as_slice());
+    Ok(())
+}
+
+/// The code of `print *, -7/2, mod(-7, 2), -2*3`.
+fn sums(alloc: Global) -> Result<Code, Memory>
+    ensures { IfOk result (λ code. code ≡ sums_code) }
+{
+    let instrs = Sequence::from_slice(
+        alloc,
+        &[
+            Instr::Push(7),
+            Instr::Push(2),
+            Instr::Arithmetic(Arithmetic::Divide),
+            Instr::Arithmetic(Arithmetic::Negate),
+            Instr::Print(Printed::Number),
+            Instr::Push(7),
+            Instr::Arithmetic(Arithmetic::Negate),
+            Instr::Push(2),
+            Instr::Arithmetic(Arithmetic::Modulo),
+            Instr::Print(Printed::Number),
+            Instr::Push(2),
+            Instr::Push(3),
+            Instr::Arithmetic(Arithmetic::Multiply),
+            Instr::Arithmetic(Arithmetic::Negate),
+            Instr::Print(Printed::Number),
+            Instr::Line,
+            Instr::Close,
+            Instr::Halt,
+        ],
+    )?;
+    Ok(Code::of(Listing {
+        objects: Sequence::new(alloc),
+        subs: Sequence::new(alloc),
+        texts: Sequence::new(alloc),
+        instrs,
+    }))
+}
+
+/// The code of a `do` from 5 to 1 that prints a text, `print *, i`, an empty `do` from 1 to 5 by 2, and `print *, i`.
+fn loops(alloc: Global) -> Result<Code, Memory>
+    ensures { IfOk result (λ code. code ≡ loops_code) }
+{
+    let count = Object {
+        kind: Kind::Integer,
+        lower: 1,
+        extent: 1,
+        shared: false,
+    };
+    let objects = Sequence::from_slice(alloc, &[count])?;
+    let mut texts = Sequence::new(alloc);
+    texts.push(Text::copy_of(alloc, "never")?)?;
+    let instrs = Sequence::from_slice(
+        alloc,
+        &[
+            Instr::Push(5),
+            Instr::Push(1),
+            Instr::Push(1),
+            Instr::Loop,
+            Instr::Store(Reach::Scalar, 0),
+            Instr::Enter(13),
+            Instr::Print(Printed::Text(0)),
+            Instr::Line,
+            Instr::Load(Reach::Scalar, 0),
+            Instr::StepBy,
+            Instr::Arithmetic(Arithmetic::Add),
+            Instr::Store(Reach::Scalar, 0),
+            Instr::Again(6),
+            Instr::Load(Reach::Scalar, 0),
+            Instr::Print(Printed::Number),
+            Instr::Line,
+            Instr::Push(1),
+            Instr::Push(5),
+            Instr::Push(2),
+            Instr::Loop,
+            Instr::Store(Reach::Scalar, 0),
+            Instr::Enter(27),
+            Instr::Load(Reach::Scalar, 0),
+            Instr::StepBy,
+            Instr::Arithmetic(Arithmetic::Add),
+            Instr::Store(Reach::Scalar, 0),
+            Instr::Again(22),
+            Instr::Load(Reach::Scalar, 0),
+            Instr::Print(Printed::Number),
+            Instr::Line,
+            Instr::Close,
+            Instr::Halt,
+        ],
+    )?;
+    Ok(Code::of(Listing {
+        objects,
+        subs: Sequence::new(alloc),
+        texts,
+        instrs,
+    }))
+}
+
+/// The code of a subroutine that prints its dummy and calls itself with one more, called with 1.
+fn calls(alloc: Global) -> Result<Code, Memory>
+    ensures { IfOk result (λ code. code ≡ calls_code) }
+{
+    let mut subs = Sequence::new(alloc);
+    subs.push(SubCode {
+        address: 4,
+        dummies: Sequence::from_slice(alloc, &[false])?,
+        locals: 0,
+    })?;
+    let instrs = Sequence::from_slice(
+        alloc,
+        &[
+            Instr::Push(1),
+            Instr::Call(0),
+            Instr::Close,
+            Instr::Halt,
+            Instr::Cell(CellUse::Get, 0),
+            Instr::Print(Printed::Number),
+            Instr::Line,
+            Instr::Cell(CellUse::Get, 0),
+            Instr::Push(1),
+            Instr::Arithmetic(Arithmetic::Add),
+            Instr::Call(0),
+            Instr::Ret,
+        ],
+    )?;
+    Ok(Code::of(Listing {
+        objects: Sequence::new(alloc),
+        subs,
+        texts: Sequence::new(alloc),
+        instrs,
+    }))
+}
+
+/// By what is written of each instruction, the three codes print what their programs should: sums truncate towards
+/// zero; a loop without iterations leaves its first number, and one of three leaves the number behind the last; a
+/// subroutine that calls itself without end prints 200 lines, and traps at the 201st call.
+#[tactic(auto, using(crate::proofs::Runs::sums_print, crate::proofs::Runs::loops_print, crate::proofs::Runs::calls_print, crate::proofs::Runs::calls_end, crate::proofs::Runs::calls_trap,))]
+fn the_three_codes_print_as_they_should()
+    ensures sums { (alone 1 sums_code).memory.lines ≡ codes "-3 -1 -6" ∷ [] }
+    ensures loops { (alone 7 loops_code).memory.lines ≡ codes "5" ∷ codes "7" ∷ [] }
+    ensures calls { length (alone 401 calls_code).memory.lines ≡ 200 }
+    ensures last { slice_get (alone 401 calls_code).memory.lines 199 ≡ Some (codes "200") }
+    ensures trap { (alone 401 calls_code).effect ≡ effect.Traps trap.Depth }
+{}
+
+#[test]
+fn codes_of_small_programs_keep_the_rules(rt: HostRuntime) -> Result<(), Fail> {
+    let alloc = rt.alloc();
+    the_three_codes_print_as_they_should();
+    let wanted =
+        b"caf code 3\nsub 0 4 i 0\n0: push 1\n1: call 0\n2: close\n3: halt\n4: local 0\n5: printn\n\
+        6: line\n7: local 0\n8: push 1\n9: add\n10: call 0\n11: ret\n";
+    assert_eq!(rt;
+        print_listing(alloc, &calls(alloc)?)?.as_slice(),
+        wanted.as_slice()
+    );
+    assert_eq!(rt; sums(alloc)?.listing().instrs.len(), 18);
+    assert_eq!(rt; loops(alloc)?.listing().instrs.len(), 32);
     Ok(())
 }
