@@ -12,3 +12,4 @@ pub mod Rules
 pub mod Sound
 pub mod Listing
 pub mod Examples
+pub mod Whole

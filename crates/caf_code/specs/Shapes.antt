@@ -79,10 +79,11 @@ abbrev pub operands : Operator → ℕ
 operands (One w) = 1
 operands (Two w) = 2
 
-abbrev pub ranks : PlaceForm → ℕ
-ranks at.Own = 0
-ranks at.World = 1
-ranks (at.Of o) = 1
+-- so many numbers, and a rank where the place has one
+abbrev pub with_rank : PlaceForm → ℕ → ℕ
+with_rank at.Own n = n
+with_rank at.World n = suc n
+with_rank (at.Of o) n = suc n
 
 abbrev pub numbers : RangeForm → ℕ
 numbers form.All = 0
@@ -92,11 +93,11 @@ numbers form.From = 1
 numbers form.UpTo = 1
 
 abbrev pub element_numbers : ElementForm → ℕ
-element_numbers (element.Coindexed o p) = suc (ranks p)
+element_numbers (element.Coindexed o p) = with_rank p 1
 element_numbers (element.Pointed c) = 1
 
 abbrev pub section_numbers : SectionForm → ℕ
-section_numbers (section.Region o f p) = ranks p + numbers f
+section_numbers (section.Region o f p) = with_rank p (numbers f)
 section_numbers (section.Pointed c f) = numbers f
 
 -- how many dummies a subroutine has, and how many of them are copied out
@@ -193,13 +194,13 @@ next_shape code p (instr.Again a) h = then_shape (fewer_loops h.loops h) marks
 next_shape code p (instr.Ask e) h = then_shape (pops (element_numbers e) h) (λ k. Some (record k { held = suc k.held }))
 next_shape code p (instr.Put e) h = then_shape (pops (suc (element_numbers e)) h) marks
 next_shape code p (instr.Section s) h = then_shape (pops (section_numbers s) h) (lists_sort IsSection)
-next_shape code p (instr.EventAt o place r) h = then_shape (pops (suc (ranks place)) h) (lists_sort (IsEvent r))
+next_shape code p (instr.EventAt o place r) h = then_shape (pops (with_rank place 1) h) (lists_sort (IsEvent r))
 next_shape code p (instr.Use (purpose.Aim c)) h = only_if (is_one_section h.listed) (marks h)
 next_shape code p (instr.Use purpose.Copy) h = only_if (is_copy h.listed) (marks h)
-next_shape code p (instr.Event (event.Notify o place)) h = then_shape (pops (suc (ranks place)) h) marks
+next_shape code p (instr.Event (event.Notify o place)) h = then_shape (pops (with_rank place 1) h) marks
 next_shape code p (instr.Event (event.Wait o)) h = then_shape (pops 1 h) marks
 next_shape code p (instr.Cofence down) h = marks h
-next_shape code p (instr.Spawn f place) h = only_if (is_ship h.listed) (then_shape (pops (ranks place + dummies_in (slice_get code.subs f)) h) marks)
+next_shape code p (instr.Spawn f place) h = only_if (is_ship h.listed) (then_shape (pops (with_rank place (dummies_in (slice_get code.subs f))) h) marks)
 next_shape code p (instr.Finish name) h = marks (record h { finishes = suc h.finishes })
 next_shape code p instr.Close h = fewer_finishes h.finishes h
 next_shape code p (instr.Split name o) h = then_shape (pops 2 h) marks

@@ -1,6 +1,6 @@
 -- Tasks and memories that a code can run: frames of the shapes that the rules give to their addresses, and names of
 -- what the code and the run have.
-use Rattle.std.specs.Prelude.{◌≡◌, ℕ, suc, ◌+◌, ◌<◌, Bool, true, false, ◌&&◌, ◌||◌, nat_eq, nat_lt, List, [], ◌∷◌, map, length, All, Contains, Option, Some, None, pos, ◌+ℤ◌, int_le, IsTrue, slice_get}
+use Rattle.std.specs.Prelude.{◌≡◌, ℕ, suc, ◌+◌, ◌<◌, Bool, true, false, ◌&&◌, ◌||◌, nat_eq, nat_lt, List, [], ◌∷◌, map, length, All, Contains, Option, Some, None, ℤ, pos, ◌+ℤ◌, int_le, IsTrue, slice_get}
 use Rattle.std.specs.List.{list_all, IsDistinct}
 use Rattle.caf_base.specs.ImageMemory.{ImageMemory}
 use Rattle.caf_base.specs.Places.{copointer_at, team_at}
@@ -44,15 +44,28 @@ is_target code cells (target.Scalar o) = is_data code o
 is_target code cells (target.Element o i) = is_data code o
 is_target code cells (target.Local k) = nat_lt k cells
 
--- a frame of a part has a shape, but for so many values that are still to come
-pub record HasShape (code : Listing) (p : Part) (h : Shape) (missing : ℕ) (f : Frame) : Type 0 where
+-- how many values are held, with the one that is still to come while a blocking read is awaited
+abbrev pub held_by : Option Wait → List ℤ → ℕ
+held_by (Some wait.Value) held = suc (length held)
+held_by _ held = length held
+
+-- the shape that a frame has, with so many finishes open in it
+abbrev pub shape_of : Option Wait → ℕ → Frame → Shape
+shape_of w finishes f = record {
+  stack = length f.stack;
+  held = held_by w f.held;
+  loops = length f.loops;
+  listed = map sort_of f.listed;
+  outs = length f.outs;
+  finishes = finishes;
+}
+
+-- a frame of a part, at an address, has the shape that stands there
+pub record IsFrame (code : Listing) (shapes : Shapes) (p : Part) (a : ℕ) (w : Option Wait) (f : Frame) : Type 0 where
+  pub finishes : ℕ
+  pub stands : shapes p a ≡ Some (shape_of w finishes f)
   pub cells : length f.cells ≡ cells_of code p
-  pub stack : length f.stack ≡ h.stack
-  pub held : length f.held + missing ≡ h.held
-  pub loops : length f.loops ≡ h.loops
-  pub listed : map sort_of f.listed ≡ h.listed
-  pub outs : length f.outs ≡ h.outs
-  pub names : IsTrue (list_all (is_listed code) f.listed)
+  pub listed : IsTrue (list_all (is_listed code) f.listed)
   pub targets : IsTrue (list_all (is_target code (length f.cells)) f.outs)
 
 -- the cells of the dummies that are copied out, where the first dummy is this cell
@@ -62,26 +75,19 @@ copied_cells cell (false ∷ dummies) = copied_cells (suc cell) dummies
 copied_cells cell (true ∷ dummies) = cell ∷ copied_cells (suc cell) dummies
 
 -- A frame of a subroutine was opened by a `call` of it, and has taken along a place for each dummy that is copied out.
--- The frame that called, of a part with a shape there, goes on behind the `call`.
+-- The frame that called goes on behind the `call`.
 pub record IsOpenCall (code : Listing) (shapes : Shapes) (f : ℕ) (caller : Part) (c : OpenCall) : Type 0 where
   pub sub : SubCode
   pub named : slice_get code.subs f ≡ Some sub
   pub calls : slice_get code.instrs c.from ≡ Some (instr.Call f)
   pub outs : map (λ (o : CopyOut). o.cell) c.outs ≡ copied_cells 0 sub.dummies
   pub targets : IsTrue (list_all (λ (o : CopyOut). is_target code (length c.caller.cells) o.target) c.outs)
-  pub shape : Shape
-  pub stands : shapes caller (c.from + 1) ≡ Some shape
-  pub frame : HasShape code caller shape 0 c.caller
+  pub frame : IsFrame code shapes caller (c.from + 1) None c.caller
 
 -- the calls that are open below a frame of a part
 abbrev pub AreOpenCalls : Listing → Shapes → Part → List OpenCall → Type 0
 AreOpenCalls code shapes p [] = Unit {0}
 AreOpenCalls code shapes p (c ∷ below) = (f : ℕ) × (caller : Part) × (p ≡ Sub f) × IsOpenCall code shapes f caller c × AreOpenCalls code shapes caller below
-
--- a value is still to come while a blocking read is awaited
-abbrev pub awaited : Option Wait → ℕ
-awaited (Some wait.Value) = 1
-awaited _ = 0
 
 abbrev pub is_wait : Listing → Option Wait → Bool
 is_wait code (Some (wait.NewTeam o)) = is_team code o
@@ -95,9 +101,7 @@ is_carried code images (Some e) = nat_lt e.image images && is_event code e.objec
 -- a task, in a run of so many images, where these are the shapes of the code
 pub record StandsIn (code : Listing) (shapes : Shapes) (images : ℕ) (t : Task) : Type 0 where
   pub part : Part
-  pub shape : Shape
-  pub stands : shapes part t.address ≡ Some shape
-  pub frame : HasShape code part shape (awaited t.wait) t.frame
+  pub frame : IsFrame code shapes part t.address t.wait t.frame
   pub calls : AreOpenCalls code shapes part t.calls
   pub wait : IsTrue (is_wait code t.wait)
   pub done : IsTrue (is_carried code images t.done)
