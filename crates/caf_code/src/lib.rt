@@ -7,6 +7,7 @@
 
 mod code;
 mod instr;
+mod law;
 mod listing;
 mod operator;
 mod print;
@@ -17,6 +18,7 @@ pub use instr::{
     Arithmetic, CellUse, ElementForm, EventUse, Instr, Logical, OutForm, PlaceForm, Printed,
     RangeForm, Reach, Relation, Role, SectionForm, SectionUse, TeamName, TeamQuery,
 };
+pub use law::steps_lack_nothing;
 pub use listing::{Listing, SubCode};
 pub use print::print_listing;
 pub use task::{CopyOut, CopyTarget, Listed, Loop, Wait};
