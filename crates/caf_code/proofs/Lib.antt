@@ -4,3 +4,4 @@ pub mod Runs
 pub mod Whole
 pub mod Rows
 pub mod Steps
+pub mod Kept

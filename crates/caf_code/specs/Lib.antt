@@ -13,3 +13,4 @@ pub mod Sound
 pub mod Listing
 pub mod Examples
 pub mod Whole
+pub mod Kept

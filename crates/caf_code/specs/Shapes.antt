@@ -105,9 +105,14 @@ abbrev pub dummies_in : Option SubCode → ℕ
 dummies_in None = 0
 dummies_in (Some sub) = length sub.dummies
 
+abbrev pub copied_count : List Bool → ℕ
+copied_count [] = 0
+copied_count (false ∷ dummies) = copied_count dummies
+copied_count (true ∷ dummies) = suc (copied_count dummies)
+
 abbrev pub copied_in : Option SubCode → ℕ
 copied_in None = 0
-copied_in (Some sub) = count_by (λ copied. copied) sub.dummies
+copied_in (Some sub) = copied_count sub.dummies
 
 abbrev pub cells_in : Option SubCode → ℕ
 cells_in None = 0

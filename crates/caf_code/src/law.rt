@@ -1,5 +1,6 @@
 //! What follows from the rules for every code.
 
+ghost use Rattle.caf_code.specs.Kept.{KeepsSound};
 ghost use Rattle.caf_code.specs.Rules.{KeepsRules};
 ghost use Rattle.caf_code.specs.Whole.{LacksNothing};
 ghost use Rattle.caf_code.specs.declared.listing.Listing.{Listing};
@@ -8,4 +9,10 @@ ghost use Rattle.caf_code.specs.declared.listing.Listing.{Listing};
 /// outside the code.
 pub fn steps_lack_nothing()
     ensures { (code : Listing) → KeepsRules code → LacksNothing code }
+{}
+
+/// The main task of a code and its shipped tasks are ones that it can run. They stay so by a step, by the end of a
+/// blocking operation, by going past the end of a finish, and by a new team, up to their end or a trap.
+pub fn tasks_stay_sound()
+    ensures { (code : Listing) → KeepsRules code → KeepsSound code }
 {}
