@@ -113,15 +113,15 @@ by_named S E code G none at.World k stack m go named lead fine = by_one S E G no
 by_named S E code G none (at.Of o) k stack m go named lead fine = by_one S E G none k stack m (λ rank rest. go (place.Of o rank) rest) lead (λ rank rest q. fine (place.Of o rank) rest named q)
 
 -- the first, and the second, of two tests that hold
-and_left : (a b : Bool) → (a && b) ≡ true → a ≡ true
+pub and_left : (a b : Bool) → (a && b) ≡ true → a ≡ true
 and_left true b holds = refl
 and_left false b holds = holds
 
-and_right : (a b : Bool) → (a && b) ≡ true → b ≡ true
+pub and_right : (a b : Bool) → (a && b) ≡ true → b ≡ true
 and_right true b holds = holds
 and_right false b holds = let e : false ≡ true = holds in absurd (cc)
 
-both : (a b : Bool) → a ≡ true → b ≡ true → (a && b) ≡ true
+pub both : (a b : Bool) → a ≡ true → b ≡ true → (a && b) ≡ true
 both true b left right = right
 both false b left right = left
 

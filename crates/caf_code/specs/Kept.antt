@@ -5,8 +5,9 @@ use Rattle.caf_base.specs.declared.effect.Effect.{Effect}
 use Rattle.caf_base.specs.declared.effect.Effect.TheVariants as effect
 use Rattle.caf_base.specs.declared.fence.FenceClear.{FenceClear}
 use Rattle.caf_base.specs.declared.operation.EventAt.{EventAt}
-use Rattle.caf_code.specs.Sound.{IsSoundTask, awaits_operation, awaits_team, awaits_value, is_carried, stands_at_end}
-use Rattle.caf_code.specs.Step.{answered, left, main_task, parted, runs, shipped_task}
+use Rattle.caf_base.specs.declared.team.Team.{Team}
+use Rattle.caf_code.specs.Sound.{IsSound, IsSoundMemory, IsSoundTask, IsSoundTeam, awaits_operation, awaits_team, awaits_value, is_carried, stands_at_end}
+use Rattle.caf_code.specs.Step.{answered, left, main_task, parted, parted_memory, runs, shipped_task}
 use Rattle.caf_code.specs.Task.{Task}
 use Rattle.caf_code.specs.declared.listing.Listing.{Listing}
 use Rattle.caf_code.specs.declared.listing.SubCode.{SubCode}
@@ -17,7 +18,7 @@ KeepsTask (effect.Ends event) X = Unit {0}
 KeepsTask (effect.Traps trap) X = Unit {0}
 KeepsTask _ X = X
 
--- the tasks of a code begin as ones that it can run, and stay so
+-- the tasks of a code begin as ones that it can run, and stay so, and so does the memory
 pub record KeepsSound (code : Listing) : Type 0 where
   pub main : (images : ℕ) → IsSoundTask code images (main_task code)
   -- with an argument for each dummy, and an event of the code at an image of the run, if there is one
@@ -31,3 +32,6 @@ pub record KeepsSound (code : Listing) : Type 0 where
   pub leaves : (images : ℕ) (t : Task) → IsSoundTask code images t → IsTrue (stands_at_end code t) → IsSoundTask code images (left code t)
   -- the new team of a split
   pub parts : (images : ℕ) (t : Task) → IsSoundTask code images t → IsTrue (awaits_team t.wait) → IsSoundTask code images (parted t)
+  -- the memory after a Step, and with the new team of a split
+  pub memory : (clear : FenceClear) (t : Task) (m : ImageMemory) → IsSound code t m → IsSoundMemory code (runs code clear t m).memory
+  pub team : (t : Task) (m : ImageMemory) (new : Team) → IsSound code t m → IsSoundTeam m.image m.images new → IsSoundMemory code (parted_memory t.wait new m)

@@ -113,10 +113,10 @@ pub record IsSoundTask (code : Listing) (images : ℕ) (t : Task) : Type 0 where
   pub stands : StandsIn code shapes images t
 
 -- a team of images of the run, none of them twice and this one among them
-pub record IsSoundTeam (m : ImageMemory) (t : Team) : Type 0 where
-  pub members : All (λ i. i < m.images) t.members
+pub record IsSoundTeam (image images : ℕ) (t : Team) : Type 0 where
+  pub members : All (λ i. i < images) t.members
   pub distinct : IsDistinct nat_eq t.members
-  pub member : Contains t.members m.image
+  pub member : Contains t.members image
 
 -- a section that is empty or lies in its object
 abbrev pub lies_in : Option Object → Section → Bool
@@ -133,7 +133,7 @@ pub record IsSoundMemory (code : Listing) (m : ImageMemory) : Type 0 where
   pub image : m.image < m.images
   -- a team stands only in an object that can hold one, and a copointer likewise
   pub team_objects : (o : ℕ) (t : Team) → team_at m o ≡ Some t → IsTrue (is_team code o)
-  pub teams : (o : ℕ) (t : Team) → team_at m o ≡ Some t → IsSoundTeam m t
+  pub teams : (o : ℕ) (t : Team) → team_at m o ≡ Some t → IsSoundTeam m.image m.images t
   pub copointer_objects : (o : ℕ) (s : Section) → copointer_at m o ≡ Some s → IsTrue (is_copointer code o)
   pub copointers : (o : ℕ) (s : Section) → copointer_at m o ≡ Some s → IsTrue (is_sound_section code m.images s)
 
