@@ -21,7 +21,7 @@ use Rattle.caf_code.specs.declared.listing.SubCode.{SubCode}
 use Rattle.caf_code.specs.declared.task.Wait.{Wait}
 use Rattle.caf_code.specs.declared.task.Wait.TheVariants as wait
 use Rattle.caf_base.specs.declared.team.Team.{Team}
-use Rattle.caf_code.proofs.Memory.{Leaves, row_memory, team_sound}
+use Rattle.caf_code.proofs.Memory.{Leaves, row_memory, start_sound, team_sound}
 use Rattle.caf_code.proofs.Rows.{Mid, Onward, Over, length_snoc, new_cells}
 use Rattle.caf_code.proofs.Steps.{free_mid, row_at}
 use Rattle.caf_code.proofs.Whole.{Fine}
@@ -252,6 +252,7 @@ keeps_sound code keeps = record {
   answers = answered_sound code;
   leaves = left_sound code;
   parts = parted_sound code;
+  begins = start_sound code;
   memory = λ clear t m sound. waiting_memory code keeps clear t m t.wait refl sound;
   team = λ t m new sound good. parted_memory_sound code m t.wait new sound.task.stands.wait sound.memory good;
 }

@@ -1,11 +1,13 @@
 -- The memory on which a code runs stays one on which it can run.
-use Rattle.std.proofs.Common.{◌≡◌, ℕ, zero, suc, ◌⊎◌, inl, inr, Bool, true, false, List, [], ◌∷◌, length, take, drop, reverse, Option, Some, None, Result, Ok, Err, ℤ, pos, refl, sym, ap, subst}
+use Rattle.std.proofs.Common.{◌≡◌, ℕ, zero, suc, ◌⊎◌, inl, inr, Bool, true, false, List, [], ◌∷◌, length, take, drop, reverse, Option, Some, None, Result, Ok, Err, ℤ, pos, refl, sym, ap, subst, map, ◌<◌}
+use Rattle.std.proofs.lemmas.Option.{none-some}
 use Rattle.std.specs.List.{list_all}
 use Rattle.std.specs.Prelude.{nat_le, pred, slice_get, slice_index_or, slice_set, unwrap_or, if◌then◌else◌}
 use Rattle.caf_base.specs.Arithmetic.{Answer, is_zero, of_one, of_two}
 use Rattle.caf_base.specs.Element.{element_of, has_index}
 use Rattle.caf_base.specs.Fence.{passes}
 use Rattle.caf_base.specs.ImageMemory.{ImageMemory}
+use Rattle.caf_base.specs.Start.{start_memory}
 use Rattle.caf_base.specs.Line.{has_room, line_of, with_line}
 use Rattle.caf_base.specs.Orders.{copy_order, ship_order, with_copointer, with_team}
 use Rattle.caf_base.specs.Places.{element_section, event_of, pointed_section, posts_at, section_of, set_element, with_posts_in, within, written, written_in}
@@ -57,6 +59,9 @@ use Rattle.caf_code.specs.declared.task.Loop.{Loop}
 use Rattle.caf_code.specs.declared.task.Wait.TheVariants as wait
 use Rattle.caf_code.proofs.Rows.{and_left}
 use Rattle.caf_code.proofs.Sections.{if_ok, section_sound}
+
+abbrev none_of : (A : Type 0) → Option A
+none_of A = None
 
 -- the memory that an instruction leaves
 abbrev pub Leaves : Listing → Did → Type 0
@@ -217,6 +222,22 @@ m_leaves code m sound (c ∷ below) t = m_copies code c.outs t.frame.cells c.cal
 
 one_listed : (code : Listing) (xs : List Listed) (w : SectionWanted) → list_all (is_listed code) xs ≡ true → xs ≡ listed.Section w ∷ [] → is_listed code (listed.Section w) ≡ true
 one_listed code xs w each is = and_left (is_listed code (listed.Section w)) true (subst (λ ys. list_all (is_listed code) ys ≡ true) is each)
+
+-- where nothing is set
+unset_at : {A : Type 0} (objects : List Object) (o : ℕ) (x : A) → slice_index_or (map (λ (y : Object). none_of A) objects) o None ≡ Some x → ⊥
+unset_at [] o x e = none-some x e
+unset_at (y ∷ ys) zero x e = none-some x e
+unset_at (y ∷ ys) (suc o) x e = unset_at ys o x e
+
+pub start_sound : (code : Listing) (images image : ℕ) → image < images → IsSoundMemory code (start_memory code.objects images image)
+start_sound code images image below = record {
+  objects = refl;
+  image = below;
+  team_objects = λ o t at. absurd (unset_at code.objects o t at);
+  teams = λ o t at. absurd (unset_at code.objects o t at);
+  copointer_objects = λ o s at. absurd (unset_at code.objects o s at);
+  copointers = λ o s at. absurd (unset_at code.objects o s at);
+}
 
 -- what an instruction of the code leaves, where this is what the frame lists
 pub row_memory : (code : Listing) (clear : FenceClear) (i : Instr) (t : Task) (m : ImageMemory) (sound : IsSoundMemory code m) → has_operands code i ≡ true → list_all (is_listed code) t.frame.listed ≡ true → Leaves code (does code clear i t m)

@@ -1,6 +1,7 @@
 -- What keeps a task one that the code can run.
-use Rattle.std.specs.Prelude.{◌≡◌, ℕ, List, length, Option, Some, ℤ, IsTrue, is_some, slice_get}
+use Rattle.std.specs.Prelude.{◌≡◌, ◌<◌, ℕ, List, length, Option, Some, ℤ, IsTrue, is_some, slice_get}
 use Rattle.caf_base.specs.ImageMemory.{ImageMemory}
+use Rattle.caf_base.specs.Start.{start_memory}
 use Rattle.caf_base.specs.declared.effect.Effect.{Effect}
 use Rattle.caf_base.specs.declared.effect.Effect.TheVariants as effect
 use Rattle.caf_base.specs.declared.fence.FenceClear.{FenceClear}
@@ -32,6 +33,7 @@ pub record KeepsSound (code : Listing) : Type 0 where
   pub leaves : (images : ℕ) (t : Task) → IsSoundTask code images t → IsTrue (stands_at_end code t) → IsSoundTask code images (left code t)
   -- the new team of a split
   pub parts : (images : ℕ) (t : Task) → IsSoundTask code images t → IsTrue (awaits_team t.wait) → IsSoundTask code images (parted t)
-  -- the memory after a Step, and with the new team of a split
+  -- the memory with which an image begins, that after a Step, and that with the new team of a split
+  pub begins : (images image : ℕ) → image < images → IsSoundMemory code (start_memory code.objects images image)
   pub memory : (clear : FenceClear) (t : Task) (m : ImageMemory) → IsSound code t m → IsSoundMemory code (runs code clear t m).memory
   pub team : (t : Task) (m : ImageMemory) (new : Team) → IsSound code t m → IsSoundTeam m.image m.images new → IsSoundMemory code (parted_memory t.wait new m)

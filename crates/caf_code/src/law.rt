@@ -11,8 +11,9 @@ pub fn steps_lack_nothing()
     ensures { (code : Listing) → KeepsRules code → LacksNothing code }
 {}
 
-/// The main task of a code and its shipped tasks are ones that it can run. They stay so by a step, by the end of a
-/// blocking operation, by going past the end of a finish, and by a new team, up to their end or a trap.
+/// The main task of a code, its shipped tasks and the memory with which an image begins are such that the code can run
+/// them. They stay so by a step, by the end of a blocking operation, by going past the end of a finish, and by the new
+/// team of a split, the task up to its end or a trap.
 pub fn tasks_stay_sound()
     ensures { (code : Listing) → KeepsRules code → KeepsSound code }
 {}
