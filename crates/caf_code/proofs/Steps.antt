@@ -1,5 +1,5 @@
 -- Each Step of a task that a code can run comes to its end, and lacks nothing on the way.
-use Rattle.std.proofs.Common.{◌≡◌, ℕ, zero, suc, ◌<◌, ◌⊎◌, inl, inr, Bool, true, false, length, Option, Some, None, refl, sym, subst, arith}
+use Rattle.std.proofs.Common.{ap, List, ◌≡◌, ℕ, zero, suc, ◌<◌, ◌⊎◌, inl, inr, Bool, true, false, length, Option, Some, None, refl, sym, subst, arith}
 use Rattle.std.specs.Prelude.{is_none, slice_get}
 use Rattle.std.proofs.lemmas.Option.{slice_get_cases}
 use Rattle.caf_base.specs.ImageMemory.{ImageMemory}
@@ -8,9 +8,9 @@ use Rattle.caf_code.specs.Did.{Did, Goes, Stops, Blocks, Fails, Lacks}
 use Rattle.caf_code.specs.Rules.{AreShapes, KeepsRules, Shapes, goes_on, is_marked, is_steady, meets_at, meets_mark, way_on}
 use Rattle.caf_code.specs.Shapes.{Part}
 use Rattle.caf_code.specs.Sound.{IsFrame, StandsIn, shape_of}
-use Rattle.caf_code.specs.Step.{does, does_at, exec, go_of, then_run}
+use Rattle.caf_code.specs.Step.{does, does_at, exec, followed, go_of, settled, then_run}
 use Rattle.caf_code.specs.Task.{Task}
-use Rattle.caf_code.specs.Whole.{IsWhole, LacksNothing}
+use Rattle.caf_code.specs.Whole.{ComesToRest, IsWhole, LacksNothing}
 use Rattle.caf_code.specs.declared.instr.Instr.{Instr}
 use Rattle.caf_code.specs.declared.instr.Instr.TheVariants as instr
 use Rattle.caf_code.specs.declared.listing.Listing.{Listing}
@@ -84,3 +84,16 @@ lacks_nothing code keeps clear images t m sound free settled =
     (λ steady. exec_whole code keeps sound.shapes sound.shaped clear images p (length code.instrs) t m mid steady)
     (λ whole. first_whole code clear (length code.instrs) t m i below there.2 whole))
     (λ past. absurd (omega (arith, below, past.0)))
+
+-- no instruction, no `go`
+stays_none : (instrs : List Instr) (n a : ℕ) → slice_get instrs a ≡ None → settled instrs n a ≡ a
+stays_none instrs zero a none = refl
+stays_none instrs (suc n) a none = ap (λ o. followed (go_of o) a (settled instrs n)) none
+
+rests_at : (code : Listing) → KeepsRules code → (a : ℕ) (o : Option Instr) → slice_get code.instrs a ≡ o → is_none (go_of (slice_get code.instrs (settled code.instrs (length code.instrs) a))) ≡ true
+rests_at code keeps a (Some i) at = (keeps.instrs a i at).rests
+rests_at code keeps a None at =
+    subst (λ b. is_none (go_of (slice_get code.instrs b)) ≡ true) (sym (stays_none code.instrs (length code.instrs) a at)) (subst (λ o. is_none (go_of o) ≡ true) (sym at) refl)
+
+pub comes_to_rest_after : (code : Listing) → KeepsRules code → ComesToRest code
+comes_to_rest_after code keeps t = rests_at code keeps t.address (slice_get code.instrs t.address) refl

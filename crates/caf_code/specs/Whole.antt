@@ -4,7 +4,7 @@ use Rattle.caf_base.specs.ImageMemory.{ImageMemory}
 use Rattle.caf_base.specs.declared.fence.FenceClear.{FenceClear}
 use Rattle.caf_code.specs.Did.{Did, Goes, Stops, Blocks, Fails, Lacks}
 use Rattle.caf_code.specs.Sound.{IsSoundTask}
-use Rattle.caf_code.specs.Step.{exec, go_of}
+use Rattle.caf_code.specs.Step.{exec, go_of, settles}
 use Rattle.caf_code.specs.Task.{Task}
 use Rattle.caf_code.specs.declared.listing.Listing.{Listing}
 
@@ -23,3 +23,7 @@ IsSettled code t = IsTrue (is_none (go_of (slice_get code.instrs t.address)))
 -- each Step of each task that the code can run is whole
 abbrev pub LacksNothing : Listing → Type 0
 LacksNothing code = (clear : FenceClear) (images : ℕ) (t : Task) (m : ImageMemory) → IsSoundTask code images t → t.wait ≡ None → IsSettled code t → IsWhole (exec code clear (length code.instrs) t m)
+
+-- a task that has followed every `go` stands at none
+abbrev pub ComesToRest : Listing → Type 0
+ComesToRest code = (t : Task) → IsSettled code (settles code t)

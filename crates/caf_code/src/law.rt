@@ -2,13 +2,14 @@
 
 ghost use Rattle.caf_code.specs.Kept.{KeepsSound};
 ghost use Rattle.caf_code.specs.Rules.{KeepsRules};
-ghost use Rattle.caf_code.specs.Whole.{LacksNothing};
+ghost use Rattle.caf_code.specs.Whole.{ComesToRest, LacksNothing};
 ghost use Rattle.caf_code.specs.declared.listing.Listing.{Listing};
 
 /// Each step of a task that a code can run comes to its end, and no instruction of it lacks an operand or stands
-/// outside the code.
+/// outside the code; so does following every `go`.
 pub fn steps_lack_nothing()
-    ensures { (code : Listing) → KeepsRules code → LacksNothing code }
+    ensures whole { (code : Listing) → KeepsRules code → LacksNothing code }
+    ensures rests { (code : Listing) → KeepsRules code → ComesToRest code }
 {}
 
 /// The main task of a code, its shipped tasks and the memory with which an image begins are such that the code can run
