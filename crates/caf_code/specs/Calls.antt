@@ -17,13 +17,14 @@ use Rattle.caf_code.specs.declared.task.CopyTarget.TheVariants as target
 abbrev pub with_out : CopyTarget → List ℤ → Task → Task
 with_out x rest t = record t { address = t.address + 1; frame = record t.frame { stack = rest; outs = t.frame.outs ++ x ∷ [] } }
 
--- `outs S`, `outx S`, `outl K`: adds a place for copy out; `outx` pops an index; trap `Index`
+-- `outs S`, `outx S`, `outl K`: fixes where a dummy of the next call is copied out to: a scalar, the element whose index
+-- stands on the stack (trap `Index`), or a cell of this frame
 abbrev pub does_out : OutForm → Task → ImageMemory → Did
 does_out (out.Scalar o) t m = Goes (with_out (target.Scalar o) t.frame.stack t) m
 does_out (out.Element o) t m = on_one t.frame.stack m (λ index rest. found (within (slice_get m.objects o) index) m (λ i. Goes (with_out (target.Element o i) rest t) m))
 does_out (out.Local k) t m = Goes (with_out (target.Local k) t.frame.stack t) m
 
--- a frame that holds these arguments: the other locals are 0, and its lists are empty
+-- the frame of a subroutine that was given these arguments: its locals are 0, and it has nothing else yet
 abbrev pub new_frame : SubCode → List ℤ → Frame
 new_frame sub arguments = record { cells = arguments ++ replicate sub.locals (pos 0); stack = []; held = []; loops = []; listed = []; outs = [] }
 
@@ -46,7 +47,7 @@ opens sub arguments rest t = record t {
   calls = record { caller = left_behind rest t.frame; from = t.address; outs = paired 0 sub.dummies t.frame.outs } ∷ t.calls;
 }
 
--- `call F *`: pops arguments; trap `Depth` where 200 calls are open; opens a frame
+-- `call F`, marked: takes the arguments off the stack and opens a frame; trap `Depth` if 200 calls are open already
 abbrev pub does_call : List SubCode → ℕ → Task → ImageMemory → Did
 does_call subs f t m = there (slice_get subs f) m (λ sub. on_arguments (length sub.dummies) t.frame.stack m (λ arguments rest.
     if nat_le 200 (length t.calls) then Fails trap.Depth m else Stops effect.Ran (opens sub arguments rest t) m))
@@ -71,6 +72,6 @@ abbrev pub leaves : List OpenCall → Task → ImageMemory → Did
 leaves [] t m = Stops (effect.Ends t.done) (ends_at t.address t.frame.stack t) m
 leaves (c ∷ below) t m = copies_out c.outs t.frame.cells c.caller m (λ f m'. Stops effect.Ran (returns c below f t) m')
 
--- `ret *`: copies out and closes the frame, or ends a shipped task
+-- `ret`, marked: the end of a call, which copies out and goes back to the caller, or of a shipped task
 abbrev pub does_ret : Task → ImageMemory → Did
 does_ret t m = leaves t.calls t m

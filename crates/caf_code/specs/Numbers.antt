@@ -23,16 +23,18 @@ use Rattle.caf_code.specs.declared.instr.Reach.TheVariants as reach
 use Rattle.caf_code.specs.declared.instr.Relation.{Relation}
 use Rattle.caf_code.specs.declared.instr.Relation.TheVariants as relation
 
--- `push N`: pushes N
+-- `push N`: the constant N goes onto the stack
 abbrev pub does_push : ℤ → Task → ImageMemory → Did
 does_push n t m = Goes (past 1 (n ∷ t.frame.stack) t) m
 
--- `load S`: pushes the scalar; `loadx S`: pops an index and pushes the element
+-- `load S`, `loadx S`: the value of a variable goes onto the stack: of a scalar, or of the element whose index stood there;
+-- trap `Index`
 abbrev pub does_load : Reach → ℕ → Task → ImageMemory → Did
 does_load reach.Scalar o t m = answers (element_of m.objects m.cells o (pos 1)) 1 t.frame.stack t m
 does_load reach.Element o t m = on_one t.frame.stack m (λ index rest. answers (element_of m.objects m.cells o index) 1 rest t m)
 
--- `store S`: pops a value into the scalar; `storex S`: pops a value, then an index
+-- `store S`, `storex S`: the value on the top is taken off and written into a scalar, or into the element whose index stood
+-- below it; trap `Index`
 abbrev pub does_store : Reach → ℕ → Task → ImageMemory → Did
 does_store reach.Scalar o t m = on_one t.frame.stack m (λ value rest. found (written m o (pos 1) value) m (Goes (past 1 rest t)))
 does_store reach.Element o t m = on_two t.frame.stack m (λ index value rest. found (written m o index value) m (Goes (past 1 rest t)))
@@ -41,12 +43,12 @@ does_store reach.Element o t m = on_two t.frame.stack m (λ index value rest. fo
 abbrev pub with_cell : ℕ → ℤ → List ℤ → Task → Task
 with_cell k value rest t = record t { address = t.address + 1; frame = record t.frame { stack = rest; cells = slice_set t.frame.cells k value } }
 
--- `local K`: pushes a cell of the frame; `setlocal K`: pops it
+-- `local K`, `setlocal K`: a cell of the frame is read onto the stack, or written from it
 abbrev pub does_cell : CellUse → ℕ → Task → ImageMemory → Did
 does_cell cell.Get k t m = Goes (past 1 (slice_index_or t.frame.cells k (pos 0) ∷ t.frame.stack) t) m
 does_cell cell.Set k t m = on_one t.frame.stack m (λ value rest. Goes (with_cell k value rest t) m)
 
--- `held K`: pushes the value held at place K
+-- `held K`: the value that a blocking read brought as the K-th, from 0, goes onto the stack
 abbrev pub does_held : ℕ → Task → ImageMemory → Did
 does_held k t m = Goes (past 1 (slice_index_or t.frame.held k (pos 0) ∷ t.frame.stack) t) m
 
@@ -81,8 +83,8 @@ logical_operator logical.Or = Two binary.Or
 logical_operator logical.Equivalent = Two binary.Equivalent
 logical_operator logical.NotEquivalent = Two binary.NotEquivalent
 
--- `neg add sub mul div mod abs min max`, `eq ne lt le gt ge`, `not and or eqv neqv`: pops the operands, the last one
--- first, and pushes the result; trap `Number`, `Divisor`
+-- `neg add sub mul div mod abs min max`, `eq ne lt le gt ge`, `not and or eqv neqv`: the operands, of which the last one is
+-- on the top, are replaced by the result; trap `Number`, `Divisor`
 abbrev pub does_operator : Operator → Task → ImageMemory → Did
 does_operator (One w) t m = on_one t.frame.stack m (λ x rest. answers (of_one w x) 1 rest t m)
 does_operator (Two w) t m = on_two t.frame.stack m (λ x y rest. answers (of_two w x y) 1 rest t m)

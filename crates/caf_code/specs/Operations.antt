@@ -47,15 +47,16 @@ on_element (element.Pointed c) stack m go = on_one stack m (λ index rest. go (p
 abbrev pub awaits : Wait → Task → Task
 awaits w t = record t { wait = Some w }
 
--- `ask S PLACE *`, `askp S *`: pops rank, index; begins a read; the value will be held
+-- `ask S PLACE`, `askp S`, marked: begins a blocking read of an element; the frame will hold the value
 abbrev pub does_ask : ElementForm → Task → ImageMemory → Did
 does_ask e t m = on_element e t.frame.stack m (λ tested rest. found tested m (λ s. Stops (effect.Begins (begun.Read s)) (awaits wait.Value (past 1 rest t)) m))
 
--- `put S PLACE *`, `putp S *`: pops value, rank, index; begins a write
+-- `put S PLACE`, `putp S`, marked: begins a blocking write of the value on the top into an element, whose numbers stand
+-- below it
 abbrev pub does_put : ElementForm → Task → ImageMemory → Did
 does_put e t m = on_one t.frame.stack m (λ value below. on_element e below m (λ tested rest. found tested m (λ s. stops (effect.Begins (begun.Write s value)) rest (awaits wait.Written t) m)))
 
--- pops the numbers of a form: 0, 1, 2, 1 and 1, the last one first
+-- takes the numbers of a form off the stack
 abbrev pub on_range : RangeForm → List ℤ → ImageMemory → (SectionRange → List ℤ → Did) → Did
 on_range form.All stack m go = go range.All stack
 on_range form.Cell stack m go = on_one stack m (λ i rest. go (range.Cell i) rest)
@@ -67,13 +68,13 @@ on_range form.UpTo stack m go = on_one stack m (λ j rest. go (range.UpTo j) res
 abbrev pub lists : Listed → List ℤ → Task → Task
 lists x rest t = record t { address = t.address + 1; frame = record t.frame { stack = rest; listed = t.frame.listed ++ x ∷ [] } }
 
--- `sect S FORM PLACE`: pops the rank, then the numbers of the form; `sectp S FORM`: pops those; adds a section,
--- without tests
+-- `sect S FORM PLACE`, `sectp S FORM`: takes a rank, if there is one, and then the numbers of the form off the stack, and
+-- lists the section as it is named; its tests come when it is used
 abbrev pub does_section : SectionForm → Task → ImageMemory → Did
 does_section (section.Region o f p) t m = on_place p t.frame.stack m (λ place below. on_range f below m (λ r rest. Goes (lists (listed.Section (wanted.Region o r place)) rest t) m))
 does_section (section.Pointed c f) t m = on_range f t.frame.stack m (λ r rest. Goes (lists (listed.Section (wanted.Pointed c r)) rest t) m)
 
--- `eventat S PLACE ROLE`: pops rank, index; adds an event
+-- `eventat S PLACE ROLE`: lists an event, by its index and its rank on the stack; its tests come when it is used
 abbrev pub does_event_at : ℕ → PlaceForm → Role → Task → ImageMemory → Did
 does_event_at o p r t m = on_place p t.frame.stack m (λ place below. on_one below m (λ index rest. Goes (lists (listed.Event r (record { object = o; index = index; place = place })) rest t) m))
 
@@ -105,7 +106,8 @@ abbrev pub on_sections : List Listed → ImageMemory → (SectionWanted → Sect
 on_sections (listed.Section dest ∷ listed.Section source ∷ events) m go = go dest source events
 on_sections _ m go = Lacks m
 
--- `aim S *`: makes the tests of a section, and sets the copointer; `copy *`: makes the tests of a copy, and begins it
+-- `aim S`, marked: aims a copointer at the section that is listed, if it passes its tests; `copy`, marked: begins the copy
+-- that is listed, if it passes its own
 abbrev pub does_use : SectionUse → Task → ImageMemory → Did
 does_use (purpose.Aim c) t m = on_section t.frame.listed m (λ w. found (section_of false m w) m (λ s. stops effect.Ran t.frame.stack t (with_copointer m c s)))
 does_use purpose.Copy t m = on_sections t.frame.listed m (λ dest source events. found (copy_order m dest source (copy_events events)) m (λ order. stops (effect.Begins (begun.Copy order)) t.frame.stack t m))
@@ -114,18 +116,18 @@ abbrev pub takes_post : ℕ → ℕ → ℤ → List ℤ → Task → ImageMemor
 takes_post zero o index rest t m = Blocks (need.Event o index)
 takes_post (suc posts) o index rest t m = stops effect.Ran rest t (with_posts m o index posts)
 
--- `notify S PLACE *`: pops rank, index; makes the tests of an event, and begins a notice; `wait S *`: pops an index;
--- trap `Index`; goes on only where the event has a post, and takes it
+-- `notify S PLACE`, marked: begins a notice to an event, if it passes its tests; `wait S`, marked: takes a post of an event of
+-- this image (trap `Index`), and blocks while there is none
 abbrev pub does_event : EventUse → Task → ImageMemory → Did
 does_event (event.Notify o p) t m = on_place p t.frame.stack m (λ place below. on_one below m (λ index rest. found (event_of m o index place) m (λ e. stops (effect.Begins (begun.Notice e)) rest t m)))
 does_event (event.Wait o) t m = on_one t.frame.stack m (λ index rest. found (within (slice_get m.objects o) index) m (λ i. takes_post (posts_at m o i) o i rest t m))
 
--- `cofence DOWN *`: waits for the fence of a class
+-- `cofence DOWN`, marked: blocks until the fence of a class lets the task pass
 abbrev pub does_cofence : Down → FenceClear → Task → ImageMemory → Did
 does_cofence down clear t m = if passes down clear then stops effect.Ran t.frame.stack t m else Blocks need.Cofence
 
--- `spawn F PLACE *`: pops rank and arguments; makes the tests of the event listed for the end, if there is one, and
--- of the target, and begins a ship
+-- `spawn F PLACE`, marked: takes a rank and the arguments off the stack, and begins a ship, if the event that is listed for
+-- its end, and then its target, pass their tests
 abbrev pub does_spawn : List SubCode → ℕ → PlaceForm → Task → ImageMemory → Did
 does_spawn subs f p t m = there (slice_get subs f) m (λ sub. on_place p t.frame.stack m (λ place below. on_arguments (length sub.dummies) below m (λ arguments rest.
     found (ship_order m f arguments (event_for role.Done t.frame.listed) place) m (λ order. stops (effect.Begins order) rest t m))))

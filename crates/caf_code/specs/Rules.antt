@@ -180,14 +180,14 @@ is_steady code a instr.Close = true
 is_steady code a instr.Halt = true
 is_steady code a i = meets_mark code.instrs (length code.instrs) a
 
--- each instruction but `halt`, `ret` and `go` is followed by another
+-- where a task may go on behind an instruction, there is one
 abbrev pub is_followed : Listing → ℕ → Instr → Bool
 is_followed code a (instr.Go b) = true
 is_followed code a instr.Ret = true
 is_followed code a instr.Halt = true
 is_followed code a i = is_address code (a + 1)
 
--- the address after every `go` has none: no cycle consists of `go` alone
+-- following every `go` comes to an end, so that none leads back to itself by others alone
 abbrev pub comes_to_rest : Listing → ℕ → Bool
 comes_to_rest code a = is_none (go_of (slice_get code.instrs (settled code.instrs (length code.instrs) a)))
 

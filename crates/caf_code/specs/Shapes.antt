@@ -145,7 +145,7 @@ abbrev pub is_one_section : List Sort → Bool
 is_one_section (IsSection ∷ []) = true
 is_one_section _ = false
 
--- at `copy`: the destination, the source, and then at most one event of each role of a copy
+-- at `copy`: two sections, and behind them no role of a copy twice and no other event
 abbrev pub is_copy : List Sort → Bool
 is_copy (IsSection ∷ IsSection ∷ events) = list_all has_copy_role events && at_most_one role.Pre events && at_most_one role.Srce events && at_most_one role.Deste events
 is_copy _ = false
@@ -245,12 +245,12 @@ abbrev pub ends_way : Bool → Option Ways
 ends_way true = Some []
 ends_way false = None
 
--- `ret` stands in subroutines only, with the stack and the loops empty and no finish open
+-- `ret`: in a subroutine, with nothing on the stack and neither a loop nor a finish open
 abbrev pub may_return : Part → Shape → Bool
 may_return Main h = false
 may_return (Sub f) h = nat_eq h.stack 0 && nat_eq h.loops 0 && nat_eq h.finishes 0
 
--- `halt` stands in the main program only, with no finish open
+-- `halt`: in the main program, behind the end of its finish
 abbrev pub may_halt : Part → Shape → Bool
 may_halt Main h = nat_eq h.finishes 0
 may_halt (Sub f) h = false

@@ -1,4 +1,4 @@
--- One Step of a task: from its address through the next marked instruction, and then every `go`.
+-- One Step of a task: the instructions from its address on, the first marked one included, and then every `go`.
 use Rattle.std.specs.Prelude.{ℕ, zero, suc, ◌+◌, List, [], ◌∷◌, ◌++◌, length, Option, Some, None, ℤ, slice_get}
 use Rattle.caf_base.specs.After.{After}
 use Rattle.caf_base.specs.ImageMemory.{ImageMemory}

@@ -25,7 +25,7 @@ of_team query.Size m team.World = Ok (pos m.images)
 of_team query.Rank m (team.Object o) = bind (team_set (team_at m o)) (λ t. Ok (pos (rank_or_first t.members m.image)))
 of_team query.Size m (team.Object o) = bind (team_set (team_at m o)) (λ t. Ok (pos (length t.members)))
 
--- `rank`, `size`, `rankof S`, `sizeof S`: pushes it; trap `Team` where the team is unset
+-- `rank`, `size`, `rankof S`, `sizeof S`: that number goes onto the stack; trap `Team` where the team is unset
 abbrev pub does_team : TeamQuery → TeamName → Task → ImageMemory → Did
 does_team q name t m = answers (of_team q m name) 1 t.frame.stack t m
 
@@ -34,14 +34,15 @@ abbrev pub team_named : ImageMemory → TeamName → Result Team Trap
 team_named m team.World = Ok (world m)
 team_named m (team.Object o) = team_set (team_at m o)
 
--- `finish *`, `finisht S *`: enters the next finish of the team
+-- `finish`, `finisht S`, marked: the task enters the next finish of a team; trap `Team`
 abbrev pub does_finish : TeamName → Task → ImageMemory → Did
 does_finish name t m = found (team_named m name) m (λ x. stops (effect.Enters x) t.frame.stack t m)
 
--- `close`: the end of a finish; a Step doesn't go past it
+-- `close`: a task that comes to the end of a finish stands here until it may leave
 abbrev pub does_close : Did
 does_close = Blocks need.Finish
 
--- `split PLACE S *`: pops key, colour; arrives at the next split of the team; S will be the new team
+-- `split PLACE S`, marked: takes key and colour off the stack, arrives at the next split of a team (trap `Team`), and waits for
+-- the new team, which goes into S
 abbrev pub does_split : TeamName → ℕ → Task → ImageMemory → Did
 does_split name o t m = on_two t.frame.stack m (λ colour key rest. found (team_named m name) m (λ x. stops (effect.Arrives x colour key o) rest (awaits (wait.NewTeam o) t) m))

@@ -20,7 +20,7 @@ pub enum Listed {
 #[derive(Clone, Copy)]
 pub enum CopyTarget {
     Scalar(u32),
-    /// An element of an object, at an index within its bounds.
+    /// An element of an object, at an index.
     Element(u32, i64),
     /// A cell of the caller's frame.
     Local(u32),
