@@ -1,0 +1,43 @@
+-- The codes of three small programs keep the rules.
+use Rattle.std.proofs.Common.{◌≡◌, ℕ, List, refl, sym, subst}
+use Rattle.caf_base.specs.declared.object.Object.{Object}
+use Rattle.caf_code.specs.Examples.{sums_code, sums_main, sums_subs, loops_code, loops_main, loops_subs, calls_code, calls_main, calls_subs}
+use Rattle.caf_code.specs.Rules.{KeepsRules}
+use Rattle.caf_code.specs.declared.instr.Instr.{Instr}
+use Rattle.caf_code.specs.declared.listing.Listing.{Listing}
+use Rattle.caf_code.specs.declared.listing.SubCode.{SubCode}
+use Rattle.caf_code.proofs.Checked.{by_tables}
+
+-- a listing with equal parts
+pub kept_as : (code : Listing) → KeepsRules code → (objects : List Object) (subs : List SubCode) (texts : List (List ℕ)) (instrs : List Instr)
+    → objects ≡ code.objects → subs ≡ code.subs → texts ≡ code.texts → instrs ≡ code.instrs
+    → KeepsRules (record { objects = objects; subs = subs; texts = texts; instrs = instrs })
+kept_as code keeps objects subs texts instrs same_objects same_subs same_texts same_instrs =
+    subst (λ x. KeepsRules (record { objects = x; subs = subs; texts = texts; instrs = instrs })) (sym same_objects)
+    (subst (λ x. KeepsRules (record { objects = code.objects; subs = x; texts = texts; instrs = instrs })) (sym same_subs)
+    (subst (λ x. KeepsRules (record { objects = code.objects; subs = code.subs; texts = x; instrs = instrs })) (sym same_texts)
+    (subst (λ x. KeepsRules (record { objects = code.objects; subs = code.subs; texts = code.texts; instrs = x })) (sym same_instrs) keeps)))
+
+pub sums_keeps_rules : KeepsRules sums_code
+sums_keeps_rules = by_tables sums_code sums_main sums_subs refl
+    (record { operands = refl; followed = refl; steady = refl; rests = refl }, (record { operands = refl; followed = refl; steady = refl; rests = refl }, (record { operands = refl; followed = refl; steady = refl; rests = refl }, (record { operands = refl; followed = refl; steady = refl; rests = refl }, (record { operands = refl; followed = refl; steady = refl; rests = refl }, (record { operands = refl; followed = refl; steady = refl; rests = refl }, (record { operands = refl; followed = refl; steady = refl; rests = refl }, (record { operands = refl; followed = refl; steady = refl; rests = refl }, (record { operands = refl; followed = refl; steady = refl; rests = refl }, (record { operands = refl; followed = refl; steady = refl; rests = refl }, (record { operands = refl; followed = refl; steady = refl; rests = refl }, (record { operands = refl; followed = refl; steady = refl; rests = refl }, (record { operands = refl; followed = refl; steady = refl; rests = refl }, (record { operands = refl; followed = refl; steady = refl; rests = refl }, (record { operands = refl; followed = refl; steady = refl; rests = refl }, (record { operands = refl; followed = refl; steady = refl; rests = refl }, (record { operands = refl; followed = refl; steady = refl; rests = refl }, (record { operands = refl; followed = refl; steady = refl; rests = refl }, tt))))))))))))))))))
+    refl tt
+    ((refl, tt), ((refl, tt), ((refl, tt), ((refl, tt), ((refl, tt), ((refl, tt), ((refl, tt), ((refl, tt), ((refl, tt), ((refl, tt), ((refl, tt), ((refl, tt), ((refl, tt), ((refl, tt), ((refl, tt), ((refl, tt), ((refl, tt), (tt, tt))))))))))))))))))
+    tt
+    tt tt
+
+pub loops_keeps_rules : KeepsRules loops_code
+loops_keeps_rules = by_tables loops_code loops_main loops_subs refl
+    (record { operands = refl; followed = refl; steady = refl; rests = refl }, (record { operands = refl; followed = refl; steady = refl; rests = refl }, (record { operands = refl; followed = refl; steady = refl; rests = refl }, (record { operands = refl; followed = refl; steady = refl; rests = refl }, (record { operands = refl; followed = refl; steady = refl; rests = refl }, (record { operands = refl; followed = refl; steady = refl; rests = refl }, (record { operands = refl; followed = refl; steady = refl; rests = refl }, (record { operands = refl; followed = refl; steady = refl; rests = refl }, (record { operands = refl; followed = refl; steady = refl; rests = refl }, (record { operands = refl; followed = refl; steady = refl; rests = refl }, (record { operands = refl; followed = refl; steady = refl; rests = refl }, (record { operands = refl; followed = refl; steady = refl; rests = refl }, (record { operands = refl; followed = refl; steady = refl; rests = refl }, (record { operands = refl; followed = refl; steady = refl; rests = refl }, (record { operands = refl; followed = refl; steady = refl; rests = refl }, (record { operands = refl; followed = refl; steady = refl; rests = refl }, (record { operands = refl; followed = refl; steady = refl; rests = refl }, (record { operands = refl; followed = refl; steady = refl; rests = refl }, (record { operands = refl; followed = refl; steady = refl; rests = refl }, (record { operands = refl; followed = refl; steady = refl; rests = refl }, (record { operands = refl; followed = refl; steady = refl; rests = refl }, (record { operands = refl; followed = refl; steady = refl; rests = refl }, (record { operands = refl; followed = refl; steady = refl; rests = refl }, (record { operands = refl; followed = refl; steady = refl; rests = refl }, (record { operands = refl; followed = refl; steady = refl; rests = refl }, (record { operands = refl; followed = refl; steady = refl; rests = refl }, (record { operands = refl; followed = refl; steady = refl; rests = refl }, (record { operands = refl; followed = refl; steady = refl; rests = refl }, (record { operands = refl; followed = refl; steady = refl; rests = refl }, (record { operands = refl; followed = refl; steady = refl; rests = refl }, (record { operands = refl; followed = refl; steady = refl; rests = refl }, (record { operands = refl; followed = refl; steady = refl; rests = refl }, tt))))))))))))))))))))))))))))))))
+    refl tt
+    ((refl, tt), ((refl, tt), ((refl, tt), ((refl, tt), ((refl, tt), ((refl, (refl, tt)), ((refl, tt), ((refl, tt), ((refl, tt), ((refl, tt), ((refl, tt), ((refl, tt), ((refl, (refl, tt)), ((refl, tt), ((refl, tt), ((refl, tt), ((refl, tt), ((refl, tt), ((refl, tt), ((refl, tt), ((refl, tt), ((refl, (refl, tt)), ((refl, tt), ((refl, tt), ((refl, tt), ((refl, tt), ((refl, (refl, tt)), ((refl, tt), ((refl, tt), ((refl, tt), ((refl, tt), (tt, tt))))))))))))))))))))))))))))))))
+    tt
+    tt tt
+
+pub calls_keeps_rules : KeepsRules calls_code
+calls_keeps_rules = by_tables calls_code calls_main calls_subs refl
+    (record { operands = refl; followed = refl; steady = refl; rests = refl }, (record { operands = refl; followed = refl; steady = refl; rests = refl }, (record { operands = refl; followed = refl; steady = refl; rests = refl }, (record { operands = refl; followed = refl; steady = refl; rests = refl }, (record { operands = refl; followed = refl; steady = refl; rests = refl }, (record { operands = refl; followed = refl; steady = refl; rests = refl }, (record { operands = refl; followed = refl; steady = refl; rests = refl }, (record { operands = refl; followed = refl; steady = refl; rests = refl }, (record { operands = refl; followed = refl; steady = refl; rests = refl }, (record { operands = refl; followed = refl; steady = refl; rests = refl }, (record { operands = refl; followed = refl; steady = refl; rests = refl }, (record { operands = refl; followed = refl; steady = refl; rests = refl }, tt))))))))))))
+    refl (refl, tt)
+    ((refl, tt), ((refl, tt), ((refl, tt), (tt, tt))))
+    (((refl, tt), ((refl, tt), ((refl, tt), ((refl, tt), ((refl, tt), ((refl, tt), ((refl, tt), (tt, tt)))))))), tt)
+    (tt, tt) (((refl, (refl, (refl, (refl, (refl, (refl, (refl, (refl, tt)))))))), tt), tt)

@@ -1,0 +1,9 @@
+pub mod Checked
+pub mod Examples
+pub mod Runs
+pub mod Whole
+pub mod Rows
+pub mod Steps
+pub mod Kept
+pub mod Sections
+pub mod Memory
