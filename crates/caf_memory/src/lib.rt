@@ -6,8 +6,11 @@
 mod bounds;
 mod line_fault;
 mod memory;
+mod orders;
+mod places;
 mod rows;
 mod section_fault;
+mod span;
 mod start;
 
 pub use caf_base::Memory;

@@ -277,8 +277,8 @@ impl ImageMemory {
         let _objects = &self.objects;
     }
 
-    // The object at a place.
-    fn object(&self, object: u32) -> Option<Object>
+    /// The object at a place, from 0.
+    pub fn object(&self, object: u32) -> Option<Object>
         ensures { result ≡ slice_get self.now.objects object }
     {
         object_at(self.objects.as_slice(), object)
