@@ -17,3 +17,6 @@ pub use caf_base::Memory;
 pub use line_fault::LineFault;
 pub use memory::ImageMemory;
 pub use section_fault::SectionFault;
+
+#[cfg(test)]
+mod tests;
