@@ -33,11 +33,23 @@ const OBJECTS: [Object; 4] = [
 #[test]
 fn an_element_is_written_within_its_bounds(rt: HostRuntime) -> Result<(), Fail> {
     let mut memory = ImageMemory::new(rt.alloc(), &OBJECTS, 1, 4)?;
-    for (index, done) in [(-2, false), (-1, true), (1, true), (2, false), (i64::MIN, false)] {
+    for (index, done) in [
+        (-2, false),
+        (-1, true),
+        (1, true),
+        (2, false),
+        (i64::MIN, false),
+    ] {
         let want = if done { Ok(()) } else { Err(Trap::Index) };
         assert!(rt; memory.write(0, index, 7) == want, "a write at {index}");
     }
-    for (index, want) in [(-2, None), (-1, Some(7)), (0, Some(0)), (1, Some(7)), (2, None)] {
+    for (index, want) in [
+        (-2, None),
+        (-1, Some(7)),
+        (0, Some(0)),
+        (1, Some(7)),
+        (2, None),
+    ] {
         assert!(rt; memory.read(0, index).ok() == want, "a read at {index}");
     }
     Ok(())
@@ -61,7 +73,10 @@ fn a_section_is_read_within_its_bounds_and_its_limit(rt: HostRuntime) -> Result<
             Err(SectionFault::Trap(trap)) => Err(trap),
             Err(SectionFault::Memory) => return Err(Fail::from(crate::Memory)),
         };
-        assert!(rt; got == want, "{extent} elements of object {object} from {from}");
+        assert!(rt;
+            got == want,
+            "{extent} elements of object {object} from {from}"
+        );
     }
     Ok(())
 }
@@ -92,7 +107,10 @@ fn a_place_is_found_or_traps(rt: HostRuntime) -> Result<(), Fail> {
         index: 3,
         place: Place::World(9),
     };
-    assert!(rt; memory.event(&event) == Err(Trap::Index), "the index comes before the rank");
+    assert!(rt;
+        memory.event(&event) == Err(Trap::Index),
+        "the index comes before the rank"
+    );
     for (range, want) in [
         (SectionRange::All, Ok((-1, 3))),
         (SectionRange::From(0), Ok((0, 2))),

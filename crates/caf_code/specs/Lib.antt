@@ -1,0 +1,13 @@
+pub mod Task
+pub mod Did
+pub mod Numbers
+pub mod Flow
+pub mod Operations
+pub mod Teams
+pub mod Calls
+pub mod Print
+pub mod Step
+pub mod Shapes
+pub mod Rules
+pub mod Sound
+pub mod Listing
