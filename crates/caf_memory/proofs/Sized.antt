@@ -1,5 +1,5 @@
 -- Which memories are sized.
-use Rattle.std.proofs.Common.{◌≡◌, ℕ, zero, suc, ◌+◌, ◌<◌, List, [], ◌∷◌, ◌++◌, length, get_or, map, take, Some, refl, ap, sym, ◌∙◌, arith, ℤ, pos, true, add-one}
+use Rattle.std.proofs.Common.{◌≡◌, ℕ, zero, suc, ◌+◌, ◌<◌, List, [], ◌∷◌, ◌++◌, length, get_or, map, take, Option, Some, None, IsSomeAnd, refl, ap, sym, ◌∙◌, arith, ℤ, pos, true, add-one}
 use Rattle.std.specs.Prelude.{slice_get, slice_set, slice_index_or}
 use Rattle.std.proofs.lemmas.List.{length-map, length-replicate, length-set}
 use Rattle.std.proofs.lemmas.List as lists
@@ -11,8 +11,8 @@ use Rattle.caf_base.specs.declared.object.Kind.{Kind}
 use Rattle.caf_base.specs.declared.object.Kind.TheVariants as kind
 use Rattle.caf_base.specs.ImageMemory.{ImageMemory}
 use Rattle.caf_base.specs.Start.{start_cells, start_posts, start_memory}
-use Rattle.caf_memory.specs.Bounds.{has_cells}
-use Rattle.caf_memory.specs.Sized.{IsSized, cells_due, posts_due}
+use Rattle.caf_memory.specs.Bounds.{HasCells, has_cells}
+use Rattle.caf_memory.specs.Sized.{HasRow, IsSized, cells_due, posts_due}
 
 map_same_suc : {A B : Type 0} (b : B) (xs : List A) (i : ℕ) → i < length xs → map (λ (x : A). b) (take (suc i) xs) ≡ map (λ (x : A). b) (take i xs) ++ b ∷ []
 map_same_suc b [] i h = absurd (omega arith)
@@ -82,3 +82,10 @@ pub row_length : (m : ImageMemory) (k : ℕ) (o : Object) → IsSized m → slic
 row_length m k o sized e has =
     let at = agree_at (λ (row : List ℤ). length row) (λ (p : Object). cells_due p.kind p.extent) m.cells m.objects k o [] sized.cells e in
     (at.0, at.1 ∙ has_cells-due o.kind o.extent has)
+
+pub has_row : (m : ImageMemory) (k : ℕ) → IsSized m → HasCells m.objects k → HasRow m k
+has_row m k sized has = go (slice_get m.objects k) refl has
+  where
+    go : (found : Option Object) → slice_get m.objects k ≡ found → IsSomeAnd found (λ (p : Object). has_cells p.kind ≡ true) → IsSomeAnd found (λ (o : Object). (k < length m.cells) × (length (slice_index_or m.cells k []) ≡ o.extent))
+    go None e h = h
+    go (Some o) e h = row_length m k o sized e h

@@ -1,5 +1,5 @@
 -- What every memory keeps: each list has one entry for each object, and each entry as many elements as its object.
-use Rattle.std.specs.Prelude.{◌≡◌, ℕ, ◌+◌, ◌≤◌, List, length, map, sum_by}
+use Rattle.std.specs.Prelude.{◌≡◌, ℕ, ◌+◌, ◌<◌, ◌≤◌, List, [], IsSomeAnd, slice_get, slice_index_or, length, map, sum_by}
 use Rattle.caf_base.specs.declared.object.Kind.{Kind}
 use Rattle.caf_base.specs.declared.object.Kind.TheVariants as kind
 use Rattle.caf_base.specs.declared.object.Object.{Object}
@@ -32,3 +32,7 @@ pub record IsSized (m : ImageMemory) : Type 0 where
   pub teams : length m.teams ≡ length m.objects
   pub copointers : length m.copointers ≡ length m.objects
   pub lines : bytes_of m.lines ≤ 65536
+
+-- the object is there with as many cells as its extent
+abbrev pub HasRow : ImageMemory → ℕ → Type 0
+HasRow m object = IsSomeAnd (slice_get m.objects object) (λ (o : Object). (object < length m.cells) × (length (slice_index_or m.cells object []) ≡ o.extent))

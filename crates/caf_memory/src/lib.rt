@@ -6,11 +6,17 @@
 mod bounds;
 mod line_fault;
 mod memory;
+mod orders;
+mod places;
 mod rows;
 mod section_fault;
+mod span;
 mod start;
 
 pub use caf_base::Memory;
 pub use line_fault::LineFault;
 pub use memory::ImageMemory;
 pub use section_fault::SectionFault;
+
+#[cfg(test)]
+mod tests;

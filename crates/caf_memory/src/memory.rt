@@ -9,7 +9,7 @@ ghost use Rattle.caf_base.specs.Sections.{section_values, with_section};
 ghost use Rattle.caf_base.specs.Start.{start_memory};
 ghost use Rattle.caf_memory.specs.Bounds.{HasCells, index_trap, own_section, posts_of, section_trap, values_in};
 ghost use Rattle.caf_memory.specs.Faults.{LineFaults, SectionFaults};
-ghost use Rattle.caf_memory.specs.Sized.{IsSized};
+ghost use Rattle.caf_memory.specs.Sized.{HasRow, IsSized};
 
 use crate::bounds::{has_index, object_at, offset_of, test_section};
 use crate::rows::{number_at, part, posts_in, posts_row, put, put_all, put_posts, row_of};
@@ -277,8 +277,16 @@ impl ImageMemory {
         let _objects = &self.objects;
     }
 
-    // The object at a place.
-    fn object(&self, object: u32) -> Option<Object>
+    /// An integer or logical object has as many cells as its extent.
+    pub fn has_row(&self, object: u32)
+        requires { HasCells self.now.objects object }
+        ensures { HasRow self.now object }
+    {
+        self.is_sized();
+    }
+
+    /// The object at a place, from 0.
+    pub fn object(&self, object: u32) -> Option<Object>
         ensures { result ≡ slice_get self.now.objects object }
     {
         object_at(self.objects.as_slice(), object)
