@@ -1,2 +1,12 @@
 pub mod Own
 pub mod Finds
+pub mod Lists
+pub mod Waves
+pub mod Messages
+pub mod Totals
+pub mod Chain
+pub mod Zero
+pub mod Near
+pub mod Causes
+pub mod Depth
+pub mod Sound

@@ -1,4 +1,8 @@
 pub mod Account
 pub mod Progress
-pub mod Kept
+pub mod Stored
 pub mod Desk
+pub mod Events
+pub mod Kept
+pub mod Sound
+pub mod Totals

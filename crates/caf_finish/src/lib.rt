@@ -3,7 +3,9 @@
 
 mod counted;
 mod desk;
+mod event;
 mod known;
+mod law;
 mod progress;
 
 pub use caf_base::Memory;
@@ -11,6 +13,8 @@ pub use caf_epochs::Four;
 pub use caf_reduce::Given;
 pub use counted::Counted;
 pub use desk::FinishDesk;
+pub use event::FinishEvent;
+pub use law::kept_lists_are_sound;
 
 #[cfg(test)]
 mod tests;
