@@ -10,3 +10,13 @@ pub mod Near
 pub mod Causes
 pub mod Depth
 pub mod Sound
+pub mod Numbers
+pub mod Stamps
+pub mod Counts
+pub mod Folds
+pub mod Ranks
+pub mod Tables
+pub mod Whole
+pub mod Allowed
+pub mod Added
+pub mod Ended

@@ -6,3 +6,6 @@ pub mod Events
 pub mod Kept
 pub mod Sound
 pub mod Totals
+pub mod Ledger
+pub mod IsLedger
+pub mod Audit

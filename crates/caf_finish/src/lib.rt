@@ -1,13 +1,22 @@
 //! The finishes that one image takes part in: its counts of messages, the waves, and the sums that it gathers.
 #![tactic(auto)]
 
+mod adding;
+mod auditing;
 mod counted;
 mod desk;
 mod event;
 mod known;
 mod law;
+mod ledger;
+mod message_state;
 mod progress;
+mod rank_state;
+mod rules;
+mod verdict;
+mod wave_totals;
 
+pub use auditing::audit;
 pub use caf_base::Memory;
 pub use caf_epochs::Four;
 pub use caf_reduce::Given;
@@ -15,6 +24,7 @@ pub use counted::Counted;
 pub use desk::FinishDesk;
 pub use event::FinishEvent;
 pub use law::kept_lists_are_sound;
+pub use verdict::Audit;
 
 #[cfg(test)]
 mod tests;
