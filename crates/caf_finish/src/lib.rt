@@ -27,4 +27,6 @@ pub use law::kept_lists_are_sound;
 pub use verdict::Audit;
 
 #[cfg(test)]
+mod audit_tests;
+#[cfg(test)]
 mod tests;
