@@ -1,12 +1,10 @@
 -- An event that is added to what a ledger tells of.
-use Rattle.std.proofs.Common.{◌≡◌, ℕ, ◌+◌, ◌-◌, ◌*◌, ◌/◌, ◌<◌, ◌≤◌, ◌==◌, Bool, true, false, not, cond, ◌&&◌, nat_eq, List, ◌∷◌, length, refl, ap, sym, ◌∙◌, arith, subst, Option, Some, None, is_some, unwrap_or, ℤ}
+use Rattle.std.proofs.Common.{◌≡◌, ℕ, ◌+◌, ◌-◌, ◌*◌, ◌/◌, ◌<◌, ◌≤◌, ◌==◌, Bool, true, false, not, cond, nat_eq, List, ◌∷◌, length, refl, ap, sym, ◌∙◌, arith, subst, Option, Some, None, is_some, unwrap_or, ℤ}
 use Rattle.std.specs.Prelude.{IsSome}
 use Rattle.std.specs.HashMap.{get}
 use Rattle.caf_base.specs.declared.four.Four.{Four}
-use Rattle.caf_epochs.specs.declared.counters.Class.{Class}
-use Rattle.caf_epochs.specs.declared.counters.Class.TheVariants.{Even, Odd}
-use Rattle.caf_epochs.specs.Epoch.{epoch_of, class_of}
-use Rattle.caf_epochs.specs.Counters.{four_of}
+use Rattle.caf_epochs.specs.declared.counters.Class.TheVariants.{Even}
+use Rattle.caf_epochs.specs.Epoch.{epoch_of}
 use Rattle.caf_finish.specs.declared.counted.Counted.{Counted}
 use Rattle.caf_finish.specs.declared.counted.Counted.TheVariants.{Sent, Delivered, Received, Completed}
 use Rattle.caf_finish.specs.declared.event.FinishEvent.{FinishEvent}
@@ -15,16 +13,16 @@ use Rattle.caf_finish.specs.declared.ledger.Ledger.{Ledger}
 use Rattle.caf_finish.specs.declared.rank_state.RankState.{RankState}
 use Rattle.caf_finish.specs.declared.message_state.MessageState.{MessageState}
 use Rattle.caf_finish.specs.declared.wave_totals.WaveTotals.{WaveTotals}
-use Rattle.caf_finish.specs.Account.{number_of}
-use Rattle.caf_finish.specs.Events.{Message, message_in, messages_of, running_in, counts_of, is_even, is_odd, is_taken, is_completed, is_acked, wave_of, is_late}
+use Rattle.caf_finish.specs.Events.{Message, message_in, messages_of, running_in, is_taken, is_completed, is_acked, wave_of, is_late}
 use Rattle.caf_finish.specs.Kept.{IsKept, MayFollow, MayStand, MaySend, MayTake, MayComplete, MayAck, MayContribute, MayRelay, MayResult, MayLeave}
-use Rattle.caf_finish.specs.Ledger.{counters_of, rank_state, no_rank_state, state_of, message_state, totals_of, no_totals, counted_state, CanCount, state_after_result, CanFold, one_contribute, one_relay, IsSmallFour}
+use Rattle.caf_finish.specs.Ledger.{rank_state, no_rank_state, state_of, message_state, totals_of, no_totals, counted_state, CanCount, state_after_result, CanFold, one_contribute, one_relay, IsSmallFour}
 use Rattle.caf_finish.specs.IsLedger.{IsLedger, RankPut, WavePut, BothPut, Adds}
 use Rattle.caf_finish.proofs.Messages.{taken-sent}
 use Rattle.caf_finish.proofs.Numbers.{found-number, at-some}
 use Rattle.caf_finish.proofs.Stamps.{sent-stamp, taken-stamp}
 use Rattle.caf_finish.proofs.Ranks.{rank-send, rank-take, rank-complete, rank-ack, rank-stand, rank-leave, rank-contribute, rank-relay, rank-result}
-use Rattle.caf_finish.proofs.Tables.{new_state, message-send, message-take, message-complete, message-ack, wave-contribute, wave-relay, running-send, running-complete, count-few, wave-few}
+use Rattle.caf_finish.proofs.Tables.{new_state, message-send, message-take, message-complete, message-ack, wave-contribute, wave-relay, running-send, running-complete, count-few}
+use Rattle.caf_finish.proofs.Room.{counters-few, epoch-within, count-room, fold-room}
 use Rattle.caf_finish.proofs.Allowed.{IsStateOf, state-found}
 
 -- what a table gives at each key after a put
@@ -279,53 +277,24 @@ module _ (h : List FinishEvent) (a : Ledger) (n : ℕ) (ledger : IsLedger h a) w
 
 -- No number comes to its type's end.
 
-counts_few : (h : List FinishEvent) (class : Message → Bool) (i : ℕ) (what : Counted) → number_of what (counts_of class h i) ≤ length h
-counts_few h class i Sent = count-few (λ m. (i == m.origin) && class m) h
-counts_few h class i Delivered = count-few (λ m. ((i == m.origin) && class m) && is_acked h m.number) h
-counts_few h class i Received = count-few (λ m. ((i == m.target) && class m) && is_taken h m.number) h
-counts_few h class i Completed = count-few (λ m. ((i == m.target) && class m) && is_completed h m.number) h
-
-counters_few : (h : List FinishEvent) (i : ℕ) (what : Counted) (class : Class) → number_of what (four_of class (counters_of h i)) ≤ length h
-counters_few h i what Even = counts_few h (is_even (wave_of h i)) i what
-counters_few h i what Odd = counts_few h (is_odd (wave_of h i)) i what
-
 module _ (h : List FinishEvent) (a : Ledger) (i : ℕ) (state : RankState) (ledger : IsLedger h a) (few : length h < 1000000) (told : state ≡ unwrap_or (get nat_eq a.ranks i) no_rank_state) where
   told_is : rank_state h i ≡ state
   told_is = sym (told ∙ ledger.ranks i)
 
   pub can-count : (what : Counted) (epoch : ℕ) → epoch ≤ 2 * wave_of h i + 1 → CanCount what epoch state
-  can-count what epoch le =
-      subst (CanCount what epoch) told_is
-      (record {
-        stamped = le;
-        small = omega (arith, wave-few h i);
-        room = omega (arith, counters_few h i what (class_of epoch (wave_of h i)));
-      })
+  can-count what epoch le = subst (CanCount what epoch) told_is (count-room h i what epoch (omega arith) le)
 
   pub can-fold : CanFold state
-  can-fold =
-      subst CanFold told_is
-      (record {
-        small = omega (arith, wave-few h i);
-        fits = record {
-          sent = omega (arith, counters_few h i Sent Even, counters_few h i Sent Odd);
-          delivered = omega (arith, counters_few h i Delivered Even, counters_few h i Delivered Odd);
-          received = omega (arith, counters_few h i Received Even, counters_few h i Received Odd);
-          completed = omega (arith, counters_few h i Completed Even, counters_few h i Completed Odd);
-        };
-      })
+  can-fold = subst CanFold told_is (fold-room h i (omega arith))
 
   pub can-count-sent : (epoch : ℕ) → epoch ≡ epoch_of state.wave state.late → CanCount Sent epoch state
-  can-count-sent epoch stamp = can-count Sent epoch (within (is_late h i) (stamp ∙ ap (λ (s : RankState). epoch_of s.wave s.late) (sym told_is)))
-    where
-      within : (late : Bool) → epoch ≡ epoch_of (wave_of h i) late → epoch ≤ 2 * wave_of h i + 1
-      within true e = omega arith
-      within false e = omega arith
+  can-count-sent epoch stamp =
+      can-count Sent epoch (epoch-within _ _ (is_late h i) (stamp ∙ ap (λ (s : RankState). epoch_of s.wave s.late) (sym told_is)))
 
 pub small-four : (size : ℕ) (h : List FinishEvent) (i : ℕ) (four : Four) → MayContribute size h i four → length h < 1000000 → IsSmallFour four
 small-four size h i four may few =
     subst IsSmallFour (sym may.counts)
     (record {
-      sent = omega (arith, counters_few h i Sent Even);
-      completed = omega (arith, counters_few h i Completed Even);
+      sent = omega (arith, counters-few h i Sent Even);
+      completed = omega (arith, counters-few h i Completed Even);
     })

@@ -17,6 +17,8 @@ pub mod Folds
 pub mod Ranks
 pub mod Tables
 pub mod Whole
+pub mod Room
 pub mod Allowed
 pub mod Added
 pub mod Ended
+pub mod Followed

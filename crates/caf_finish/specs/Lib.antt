@@ -9,3 +9,4 @@ pub mod Totals
 pub mod Ledger
 pub mod IsLedger
 pub mod Audit
+pub mod Follows

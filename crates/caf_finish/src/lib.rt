@@ -23,7 +23,7 @@ pub use caf_reduce::Given;
 pub use counted::Counted;
 pub use desk::FinishDesk;
 pub use event::FinishEvent;
-pub use law::kept_lists_are_sound;
+pub use law::{accounts_follow_the_events, kept_lists_are_sound};
 pub use verdict::Audit;
 
 #[cfg(test)]
