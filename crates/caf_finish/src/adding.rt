@@ -32,7 +32,8 @@ use crate::rank_state::RankState;
 use crate::{Counted, FinishEvent, Memory};
 use caf_base::Four;
 
-// Events that keep their rules are added to what the ledger tells of.
+// Events that keep their rules are added to what the ledger tells of. A parameter that begins with `_` is part of the event,
+// so that the clauses name it, and changes nothing that the ledger tells.
 impl Ledger {
     pub(crate) fn add(&mut self, event: &FinishEvent) -> Result<(), Memory>
         ghost h: { List FinishEvent }

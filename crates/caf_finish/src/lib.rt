@@ -1,4 +1,5 @@
-//! The finishes that one image takes part in: its counts of messages, the waves, and the sums that it gathers.
+//! The finishes that one image takes part in: its counts of messages, the waves, and the sums that it gathers. Lists of
+//! what happens in a finish over a team, their rules, and what is true of every list that keeps them.
 #![tactic(auto)]
 
 mod adding;
