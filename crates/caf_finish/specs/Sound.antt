@@ -34,6 +34,7 @@ pub record ZeroMeansNone (size : ℕ) (h : List FinishEvent) : Type 0 where
   pub over : some_zero h ≡ true → IsOver size h
   pub no_send : NoSendAfterZero h
 
--- a wave with a Contribute is at most the greatest depth of a message, so that there is at most one more of them
+-- waves are few: a Contribute is of a wave from 0 up to the greatest depth of a message, so that at most one wave more than
+-- that has any
 abbrev pub HasFewWaves : List FinishEvent → Type 0
 HasFewWaves h = (i w : ℕ) → has_contributed h i w ≡ true → w ≤ greatest_depth (messages_of h)

@@ -10,7 +10,9 @@ use crate::{Audit, FinishEvent, Memory};
 use std::alloc::Global;
 
 /// Whether each event of a finish over a team of `size` ranks keeps its rule, in this order, and how many messages are
-/// sent and not completed then. It takes time and memory in proportion to the number of events.
+/// sent and not completed then. Where all do, no result is negative, a result of 0 means that no message is left, and
+/// contributions are of few waves. It takes time and memory in proportion to the number of events, and answers
+/// [`Memory`] where there is none for its tables.
 #[tactic(auto, using(crate::proofs::Sound::zero_means_none, crate::proofs::Depth::few_waves))]
 pub fn audit(alloc: Global, size: u32, events: &[FinishEvent]) -> Result<Audit, Memory>
     requires team { 0 < size }
