@@ -1,4 +1,12 @@
 pub mod Account
 pub mod Progress
-pub mod Kept
+pub mod Stored
 pub mod Desk
+pub mod Events
+pub mod Kept
+pub mod Sound
+pub mod Totals
+pub mod Ledger
+pub mod IsLedger
+pub mod Audit
+pub mod Follows

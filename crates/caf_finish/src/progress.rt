@@ -39,11 +39,11 @@ impl Model for Progress {
 
     ghost Value = { Account };
 
-    ghost use Rattle.caf_finish.specs.Kept.{account_of, IsKept};
+    ghost use Rattle.caf_finish.specs.Stored.{account_of, IsStored};
 
     ghost view = { account_of };
 
-    ghost invariant = { IsKept };
+    ghost invariant = { IsStored };
 }
 
 impl Progress {
@@ -85,13 +85,7 @@ impl Progress {
         requires { IsCountable what epoch self.old }
         ensures { self.new ≡ counted what epoch self.old }
     {
-        let class = class(epoch, self.wave);
-        match what {
-            Counted::Sent => self.counters.sent(class),
-            Counted::Delivered => self.counters.delivered(class),
-            Counted::Received => self.counters.received(class),
-            Counted::Completed => self.counters.completed(class),
-        }
+        what.count(&mut self.counters, class(epoch, self.wave));
     }
 
     pub(crate) fn may_leave(&self) -> bool

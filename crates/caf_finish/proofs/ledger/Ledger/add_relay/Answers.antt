@@ -1,0 +1,17 @@
+use Rattle.std.proofs.Common.{subst, arith}
+use Rattle.std.proofs.lemmas.Result.{on_ok_weaker}
+use Rattle.caf_finish.specs.IsLedger.{WavePut}
+use Rattle.caf_finish.proofs.Allowed.{totals-small}
+use Rattle.caf_finish.proofs.Added.{add-relay}
+use Rattle.caf_finish.proofs.ledger.Ledger.add_relay.Goals as goal
+
+pub with_relay-requires : goal.with_relay-requires
+with_relay-requires g c =
+    totals-small g.h c.args.self.now c.requires.0 c.rank-state.result.wave c.wave-totals.result c.wave-totals.ensures (let few = c.requires.1.0 in omega arith)
+
+pub returns : goal.returns
+returns g c =
+    on_ok_weaker c.put_rank.result
+    (add-relay g.h c.args.self.now c.put_wave.new.self c.put_rank.new.self c.args.child c.rank-state.result c.wave-totals.result c.requires.0 c.rank-state.ensures c.wave-totals.ensures
+    c.args._parent c.requires.1.1
+    (subst (WavePut c.args.self.now c.put_wave.new.self c.rank-state.result.wave) c.with_relay.ensures c.in_ok-put_wave.ensures)) c.put_rank.ensures
