@@ -38,7 +38,8 @@ use Rattle.caf_source.specs.Step.{At, assigned, assigns, called, does, does_firs
 use Rattle.caf_source.specs.Stepping.{can_leave_in, may_leave_end, placed}
 use Rattle.caf_source.specs.Task.{all_of}
 use Rattle.caf_source.proofs.Last.{PastReads, holds_nothing}
-use Rattle.caf_source.proofs.Plain.{and_first, step_plain}
+use Rattle.caf_source.proofs.Both.{and_first}
+use Rattle.caf_source.proofs.Plain.{step_plain}
 use Rattle.caf_source.proofs.Steps.{no_part, no_task, no_touch, runs_plain, step_placed}
 
 abbrev is_block : Effect → Bool

@@ -12,7 +12,7 @@ use Rattle.caf_program.specs.Expressions.{count_all, of_actual, of_part}
 use Rattle.caf_source.specs.Evaluated.{held_by_actual, held_by_part}
 
 -- what two lists of expressions hold
-count_both : (es fs : List ExprR) → count_all (es ++ fs) ≡ count_all es + count_all fs
+pub count_both : (es fs : List ExprR) → count_all (es ++ fs) ≡ count_all es + count_all fs
 count_both [] fs = omega arith
 count_both (e ∷ es) fs = omega (arith, count_both es fs)
 

@@ -1,3 +1,4 @@
+mod Both
 mod Found
 mod Last
 mod Plain

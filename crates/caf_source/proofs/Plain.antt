@@ -19,7 +19,7 @@ use Rattle.caf_program.specs.declared.stmt.StmtR.TheOpen.{StmtR-F}
 use Rattle.caf_program.specs.declared.stmt.StmtR.TheViews.{out-StmtR, roll-StmtR}
 use Rattle.caf_program.specs.Expressions.{of_form, reads_all}
 use Rattle.caf_program.specs.Value.{Read, value_at}
-use Rattle.caf_source.specs.Built.{all_true, are_subs_built, built_layer, is_block_built, is_built, is_here}
+use Rattle.caf_source.specs.Built.{all_true, are_subs_built, built_layer, is_block_built, is_built, is_here, is_plain}
 use Rattle.caf_source.specs.declared.argument.Argument.{Argument}
 use Rattle.caf_source.specs.declared.task.Frame.{Frame}
 use Rattle.caf_source.specs.declared.task.Task.{Task}
@@ -30,15 +30,8 @@ use Rattle.caf_source.specs.Evaluated.{arguments_of, outs_from}
 use Rattle.caf_source.specs.Plain.{IsPlainTask, StaysPlain, is_frame_built, is_todo_built}
 use Rattle.caf_source.specs.Step.{At, Variables, assigned, assigns, called, does, does_first, does_last, does_next, frame_of, given, goes_in, goes_on, kept, loop_begun, opened, printed, ran, returns_to, seen, step, turn_taken, turns, unless_waiting, variables, with_todo}
 use Rattle.caf_source.specs.Task.{all_of}
+use Rattle.caf_source.proofs.Both.{and_first, and_second}
 use Rattle.caf_source.proofs.Last.{PastReads, holds_nothing}
-
-pub and_first : (a b : Bool) → IsTrue (a && b) → IsTrue a
-and_first true b h = refl
-and_first false b h = h
-
-pub and_second : (a b : Bool) → IsTrue (a && b) → IsTrue b
-and_second true b h = h
-and_second false b h = absurd (false≢true h)
 
 both : (a b : Bool) → IsTrue a → IsTrue b → IsTrue (a && b)
 both true b h k = k
@@ -123,16 +116,16 @@ last_plain : (subs : List SubR) (clear : FenceClear) (f : StmtR-F StmtR) (a : At
 last_plain subs clear (StmtR-F.Assign line v e) a h built rolled plain rest = assign_plain v e a (and_first (is_here v) _ built) plain rest
 last_plain subs clear (StmtR-F.Print line parts) a h built rolled plain rest = given_plain (printed parts (seen a) a.memory) a (λ m. ran m a) plain (λ m is. ran_plain a m a.rest plain rest)
 last_plain subs clear (StmtR-F.If line e block otherwise) a h built rolled plain rest =
-    let blocks = and_first (is_block_built block && is_block_built otherwise) _ built in
+    let blocks = and_second (is_plain e) _ built in
     given_plain (value_at e 0 (seen a)) a (λ z. goes_on (all_of (if is_zero z then otherwise else block) ++ a.rest) a) plain
     (λ z is. ran_plain a a.memory _ plain (front_built (if is_zero z then otherwise else block) a.rest (chosen_built (is_zero z) block otherwise (and_first (is_block_built block) _ blocks) (and_second (is_block_built block) _ blocks)) rest))
 last_plain subs clear (StmtR-F.Do line v first last step body) a h built rolled plain rest =
     given_plain (loop_begun v first last step (seen a) (variables a)) a (λ p. kept p.1 (turns p.0.count v p.0.step body a.rest) a) plain
-    (λ p is. kept_plain a p.1 _ plain (turns_built p.0.count v p.0.step body a.rest (and_first (is_block_built body) _ built) rest))
+    (λ p is. kept_plain a p.1 _ plain (turns_built p.0.count v p.0.step body a.rest (and_second (is_plain first && (is_plain last && is_plain step)) _ built) rest))
 last_plain subs clear (StmtR-F.While line e body) a h built rolled plain rest =
     let more : List Todo = all_of body ++ (item.Does (roll-StmtR (StmtR-F.While line e body)) ∷ a.rest) in
     given_plain (value_at e 0 (seen a)) a (λ z. goes_on (if is_zero z then a.rest else more) a) plain
-    (λ z is. ran_plain a a.memory _ plain (again_built (is_zero z) a.rest more rest (front_built body _ (and_first (is_block_built body) _ built) (both (is_built (roll-StmtR (StmtR-F.While line e body))) _ rolled rest))))
+    (λ z is. ran_plain a a.memory _ plain (again_built (is_zero z) a.rest more rest (front_built body _ (and_second (is_plain e) _ built) (both (is_built (roll-StmtR (StmtR-F.While line e body))) _ rolled rest))))
 last_plain subs clear (StmtR-F.Call line f actuals) a h built rolled plain rest =
     call_plain (called (slice_get subs f) actuals (length a.task.below) (seen a)) a (called_built subs f (length a.task.below) (arguments_of actuals 0 (seen a)) h) plain rest
 last_plain subs clear (StmtR-F.Aim line c r) a h built rolled plain rest = absurd (false≢true built)

@@ -25,7 +25,8 @@ use Rattle.caf_source.specs.Plain.{IsPlain, IsPlainImage, all_clear, image_by, i
 use Rattle.caf_source.specs.State.{State, first, start_image}
 use Rattle.caf_source.specs.Step.{step, without_first}
 use Rattle.caf_source.specs.Stepping.{Makes, placed}
-use Rattle.caf_source.proofs.Plain.{and_first, and_second, front_built}
+use Rattle.caf_source.proofs.Both.{and_first, and_second}
+use Rattle.caf_source.proofs.Plain.{front_built}
 
 abbrev value_or : {A : Type 0} → A → Option A → A
 value_or d None = d

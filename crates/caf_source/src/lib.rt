@@ -3,6 +3,7 @@
 
 mod argument;
 mod bounds;
+mod built;
 mod call;
 mod choice;
 mod evaluated;
@@ -21,6 +22,7 @@ mod variables;
 
 pub use argument::Argument;
 pub use bounds::Bounds;
+pub use built::is_built;
 pub use choice::Choice;
 pub use fault::Fault;
 pub use machine::{State, step};

@@ -2,7 +2,7 @@ use Rattle.std.proofs.Common.{ap, sym, ◌∙◌}
 use Rattle.caf_program.specs.declared.stmt.StmtR.TheOpen.{StmtR-F}
 use Rattle.caf_program.specs.declared.stmt.StmtR.TheVariants as V
 use Rattle.caf_program.specs.declared.stmt.StmtR.TheViews.{out-StmtR}
-use Rattle.caf_source.proofs.Last.{last_of}
+use Rattle.caf_source.proofs.Last.{form_holds_nothing, last_of}
 use Rattle.caf_source.proofs.task_step.step_statement.Goals as goal
 
 pub returns-in-Assign : goal.returns-in-Assign
@@ -28,3 +28,15 @@ returns-in-While c clear =
 pub returns-in-Call : goal.returns-in-Call
 returns-in-Call c clear =
     last_of c.args.subs.now clear c.args.statement (StmtR-F.Call c.in-Call.line c.in-Call.sub c.in-Call.actuals) c.args.task.now c.args.memory.now c.step_call.result _ _ (c.in-Call.is ∙ sym (V.rolls-Call c.in-Call.line c.in-Call.sub c.in-Call.actuals)) (ap out-StmtR c.in-Call.is ∙ V.outs-Call c.in-Call.line c.in-Call.sub c.in-Call.actuals) c.requires c.each_held_value_has_its_read.ensures.past (c.step_call.ensures clear)
+
+pub step_print-requires : goal.step_print-requires
+step_print-requires c =
+    form_holds_nothing c.args.statement (StmtR-F.Print c.in-Print.line c.in-Print.parts) _ (ap out-StmtR c.in-Print.is ∙ V.outs-Print c.in-Print.line c.in-Print.parts) c.requires
+
+pub step_do-requires : goal.step_do-requires
+step_do-requires c =
+    form_holds_nothing c.args.statement (StmtR-F.Do c.in-Do.line c.in-Do.variable c.in-Do.first c.in-Do.last c.in-Do.step c.in-Do.body) _ (ap out-StmtR c.in-Do.is ∙ V.outs-Do c.in-Do.line c.in-Do.variable c.in-Do.first c.in-Do.last c.in-Do.step c.in-Do.body) c.requires
+
+pub step_call-requires : goal.step_call-requires
+step_call-requires c =
+    form_holds_nothing c.args.statement (StmtR-F.Call c.in-Call.line c.in-Call.sub c.in-Call.actuals) _ (ap out-StmtR c.in-Call.is ∙ V.outs-Call c.in-Call.line c.in-Call.sub c.in-Call.actuals) c.requires
