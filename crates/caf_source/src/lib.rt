@@ -30,3 +30,6 @@ pub use state::{Arrival, Image, Live, Operation};
 pub use stepped::Stepped;
 pub use task::{Frame, Task, Wait};
 pub use todo::{CopyOut, Target, Todo};
+
+#[cfg(test)]
+mod tests;

@@ -1,0 +1,212 @@
+ghost use Rattle.std.specs.Prelude.{◌≡◌, ◌<◌, ◌∷◌, [], IfOk, length};
+ghost use Rattle.caf_program.specs.declared.expr.ExprR.TheVariants as expr;
+ghost use Rattle.caf_program.specs.declared.parts.PrintR.TheVariants as part;
+ghost use Rattle.caf_program.specs.declared.stmt.StmtR.TheVariants as stmt;
+
+use crate::{Choice, State, is_built, step};
+use caf_base::{
+    BinaryOperator, Ending, Kind, Memory, Object, Sequence, Summary, Text, Trap, UnaryOperator,
+};
+use caf_program::{
+    Accepted, ActualR, DummyR, ExprR, Intent, LoopVariableR, PrintR, Program, StmtR, SubR,
+    ValueKind,
+};
+use sqlite_items::{Boxed, Items};
+use std::alloc::{AllocError, Global};
+use std::process::Abort;
+use std::test::Fail;
+
+/// Makes Steps of the main task as long as they are defined, at most so many, and then leaves the program's finish.
+fn run<R: Abort>(rt: &R, alloc: Global, a: &Accepted, most: u32) -> Result<Summary, Memory>
+    requires { most < 999999 }
+{
+    assert!(rt; is_built(a));
+    let mut state = State::new(alloc, a, 1)?;
+    for _step in 0..most {
+        step(a, &mut state, Choice::Step(0, 0))?;
+    }
+    step(a, &mut state, Choice::Leave(0))?;
+    state.summary(a)
+}
+
+fn expect<R: Abort>(rt: &R, summary: &Summary, lines: &[&str], trap: Option<Trap>, ending: Ending) {
+    let image = summary.images.get(0).expect(rt, "there is one image");
+    let printed = image.lines.as_slice();
+    assert_eq!(rt; printed.len(), lines.len());
+    for (line, wanted) in printed.iter().zip(lines) {
+        assert_eq!(rt; line.as_str(), *wanted);
+    }
+    assert_eq!(rt; image.trap, trap);
+    assert_eq!(rt; summary.ending, ending);
+}
+
+fn chain(
+    alloc: Global,
+    first: i64,
+    operator: BinaryOperator,
+    second: i64,
+) -> Result<ExprR, AllocError>
+    ensures { IfOk result (λ e. e ≡ expr.Chain (expr.Number first) ((operator, expr.Number second) ∷ [])) }
+{
+    let mut rest = Items::new(alloc);
+    rest.push((operator, ExprR::Number(second)))?;
+    Ok(ExprR::Chain(Boxed::new(alloc, ExprR::Number(first))?, rest))
+}
+
+/// `print *, -7/2, mod(-7, 2), -2*3`
+fn printed_numbers(alloc: Global) -> Result<Accepted, Memory> {
+    let half = chain(alloc, 7, BinaryOperator::Divide, 2)?;
+    let product = chain(alloc, 2, BinaryOperator::Multiply, 3)?;
+    let mut parts = Items::new(alloc);
+    parts.push(PrintR::Number(ExprR::Unary(UnaryOperator::Negate, Boxed::new(alloc, half)?)))?;
+    parts.push(PrintR::Number(chain(alloc, -7, BinaryOperator::Modulo, 2)?))?;
+    parts.push(PrintR::Number(ExprR::Unary(UnaryOperator::Negate, Boxed::new(alloc, product)?)))?;
+    let mut body = Items::new(alloc);
+    body.push(StmtR::Print { line: 2, parts })?;
+    Ok(Accepted::of(Program {
+        objects: Sequence::new(alloc),
+        names: Sequence::new(alloc),
+        subs: Sequence::new(alloc),
+        body,
+    }))
+}
+
+#[test]
+fn a_front_sign_applies_to_its_term_and_division_truncates(rt: HostRuntime) -> Result<(), Fail> {
+    let alloc = rt.alloc();
+    let program = printed_numbers(alloc)?;
+    let summary = run(&rt, alloc, &program, 5)?;
+    expect(&rt, &summary, &["-3 -1 -6"], None, Ending::Done);
+    Ok(())
+}
+
+/// The variable `i`.
+const INTEGER: Object = Object {
+    kind: Kind::Integer,
+    lower: 1,
+    extent: 1,
+    shared: false,
+};
+
+fn names(alloc: Global) -> Result<Sequence<Text>, Memory>
+    ensures { IfOk result (λ names. length names ≡ 1) }
+{
+    let mut names = Sequence::new(alloc);
+    names.push(Text::copy_of(alloc, "i")?)?;
+    Ok(names)
+}
+
+fn print_variable(alloc: Global, line: u32) -> Result<StmtR, Memory>
+    ensures { IfOk result (λ s. s ≡ stmt.Print line (part.Number (expr.Scalar 0) ∷ [])) }
+{
+    let mut parts = Items::new(alloc);
+    parts.push(PrintR::Number(ExprR::Scalar(0)))?;
+    Ok(StmtR::Print { line, parts })
+}
+
+/// `do i = first, last, step`, with a body that prints `i`.
+fn counting(alloc: Global, first: i64, last: i64, step: i64) -> Result<Accepted, Memory> {
+    let mut block = Items::new(alloc);
+    block.push(print_variable(alloc, 4)?)?;
+    let mut body = Items::new(alloc);
+    body.push(StmtR::Do {
+        line: 3,
+        variable: LoopVariableR::Scalar(0),
+        first: ExprR::Number(first),
+        last: ExprR::Number(last),
+        step: ExprR::Number(step),
+        body: block,
+    })?;
+    body.push(print_variable(alloc, 6)?)?;
+    Ok(Accepted::of(Program {
+        objects: Sequence::from_slice(alloc, &[INTEGER])?,
+        names: names(alloc)?,
+        subs: Sequence::new(alloc),
+        body,
+    }))
+}
+
+#[test]
+fn a_loop_counts_its_turns_in_exact_numbers(rt: HostRuntime) -> Result<(), Fail> {
+    let alloc = rt.alloc();
+    // A loop without turns leaves its first number, and another the first one past its last.
+    let summary = run(&rt, alloc, &counting(alloc, 5, 1, 1)?, 9)?;
+    expect(&rt, &summary, &["5"], None, Ending::Done);
+    let summary = run(&rt, alloc, &counting(alloc, 1, 5, 2)?, 9)?;
+    expect(&rt, &summary, &["1", "3", "5", "7"], None, Ending::Done);
+    let summary = run(&rt, alloc, &counting(alloc, 1, 5, 0)?, 9)?;
+    expect(&rt, &summary, &[], Some(Trap::Step), Ending::Trapped);
+    // The last turn ends by an addition that 64 bits don't hold.
+    let greatest = i64::MAX;
+    let summary = run(&rt, alloc, &counting(alloc, greatest - 1, greatest, 1)?, 9)?;
+    let lines = &["9223372036854775806", "9223372036854775807"];
+    expect(&rt, &summary, lines, Some(Trap::Number), Ending::Trapped);
+    // (greatest - least + greatest) / greatest is 3.
+    let summary = run(
+        &rt,
+        alloc,
+        &counting(alloc, i64::MIN, greatest, greatest)?,
+        9,
+    )?;
+    let lines = &["-9223372036854775808", "-1", "9223372036854775806"];
+    expect(&rt, &summary, lines, Some(Trap::Number), Ending::Trapped);
+    Ok(())
+}
+
+/// A subroutine `f(n)` that prints `n` and calls `f(n + 1)`, called with 1.
+fn calling_itself(alloc: Global) -> Result<Accepted, Memory> {
+    let mut parts = Items::new(alloc);
+    parts.push(PrintR::Number(ExprR::Local(0)))?;
+    let mut rest = Items::new(alloc);
+    rest.push((BinaryOperator::Add, ExprR::Number(1)))?;
+    let mut deeper = Items::new(alloc);
+    deeper.push(ActualR::Value(ExprR::Chain(Boxed::new(alloc, ExprR::Local(0))?, rest)))?;
+    let mut printing = Items::new(alloc);
+    printing.push(StmtR::Print { line: 6, parts })?;
+    printing.push(StmtR::Call {
+        line: 7,
+        sub: 0,
+        actuals: deeper,
+    })?;
+    let mut dummies = Sequence::new(alloc);
+    dummies.push(DummyR {
+        name: Text::copy_of(alloc, "n")?,
+        kind: ValueKind::Integer,
+        intent: Intent::In,
+    })?;
+    let mut subs = Sequence::new(alloc);
+    subs.push(SubR {
+        name: Text::copy_of(alloc, "f")?,
+        dummies,
+        locals: Sequence::new(alloc),
+        body: printing,
+    })?;
+    let mut actuals = Items::new(alloc);
+    actuals.push(ActualR::Value(ExprR::Number(1)))?;
+    let mut body = Items::new(alloc);
+    body.push(StmtR::Call {
+        line: 2,
+        sub: 0,
+        actuals,
+    })?;
+    Ok(Accepted::of(Program {
+        objects: Sequence::new(alloc),
+        names: Sequence::new(alloc),
+        subs,
+        body,
+    }))
+}
+
+#[test]
+fn the_two_hundred_and_first_call_traps(rt: HostRuntime) -> Result<(), Fail> {
+    let alloc = rt.alloc();
+    let summary = run(&rt, alloc, &calling_itself(alloc)?, 500)?;
+    let image = summary.images.get(0).expect(&rt, "there is one image");
+    let lines = image.lines.as_slice();
+    assert_eq!(rt; lines.len(), 200);
+    assert_eq!(rt; lines[0].as_str(), "1");
+    assert_eq!(rt; lines[199].as_str(), "200");
+    assert_eq!(rt; image.trap, Some(Trap::Depth));
+    assert_eq!(rt; summary.ending, Ending::Trapped);
+    Ok(())
+}
