@@ -301,6 +301,13 @@ impl State {
         }
     }
 
+    /// How many choices were done so far.
+    pub fn done(&self) -> u32
+        ensures { result ≡ self.now.done }
+    {
+        self.done
+    }
+
     /// How the state stands: trapped, done, stuck where no choice is defined, or going. Once memory was wanting, it is
     /// [`Memory`].
     #[tactic(auto, using(crate::proofs::Blocking::stands))]
