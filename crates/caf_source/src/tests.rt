@@ -1,12 +1,8 @@
 ghost use Rattle.std.specs.Prelude.{◌≡◌, ◌<◌, ◌∷◌, [], IfOk, length};
 ghost use Rattle.caf_program.specs.declared.expr.ExprR.TheVariants as expr;
 ghost use Rattle.caf_program.specs.declared.parts.PrintR.TheVariants as part;
-ghost use Rattle.caf_program.specs.declared.parts.VariableR.TheVariants as variable;
-ghost use Rattle.caf_program.specs.declared.program.Intent.TheVariants as intent;
-ghost use Rattle.caf_program.specs.declared.program.ValueKind.TheVariants as value_kind;
 ghost use Rattle.caf_program.specs.declared.stmt.LoopVariableR.TheVariants as counter;
 ghost use Rattle.caf_program.specs.declared.stmt.StmtR.TheVariants as stmt;
-ghost use Rattle.caf_base.specs.declared.arithmetic.BinaryOperator.TheVariants as operator;
 
 use crate::{Choice, State, is_built, step};
 use caf_base::{
@@ -14,7 +10,7 @@ use caf_base::{
 };
 use caf_program::{
     Accepted, ActualR, DummyR, ExprR, Intent, LoopVariableR, PrintR, Program, StmtR, SubR,
-    ValueKind, VariableR,
+    ValueKind,
 };
 use sqlite_items::{Boxed, Items};
 use std::alloc::{AllocError, Global};
@@ -244,70 +240,5 @@ fn the_two_hundred_and_first_call_traps(rt: HostRuntime) -> Result<(), Fail> {
     assert_eq!(rt; lines[199].as_str(), "200");
     assert_eq!(rt; image.trap, Some(Trap::Depth));
     assert_eq!(rt; summary.ending, Ending::Trapped);
-    Ok(())
-}
-
-/// `dummy = dummy + more`
-fn add(alloc: Global, line: u32, dummy: u32, more: i64) -> Result<StmtR, AllocError>
-    ensures { IfOk result (λ s. s ≡ stmt.Assign line (variable.Local dummy) (expr.Chain (expr.Local dummy) ((operator.Add, expr.Number more) ∷ []))) }
-{
-    let mut rest = Items::new(alloc);
-    rest.push((BinaryOperator::Add, ExprR::Number(more)))?;
-    Ok(StmtR::Assign {
-        line,
-        target: VariableR::Local(dummy),
-        value: ExprR::Chain(Boxed::new(alloc, ExprR::Local(dummy))?, rest),
-    })
-}
-
-fn inout(alloc: Global, name: &str) -> Result<DummyR, Memory>
-    ensures { IfOk result (λ d. (d.kind ≡ value_kind.Integer) × (d.intent ≡ intent.InOut)) }
-{
-    Ok(DummyR {
-        name: Text::copy_of(alloc, name)?,
-        kind: ValueKind::Integer,
-        intent: Intent::InOut,
-    })
-}
-
-/// A subroutine that adds 1 to its first dummy and 10 to its second, called with `i` twice; `i` is printed.
-fn copying_out_twice(alloc: Global) -> Result<Accepted, Memory> {
-    let mut adding = Items::new(alloc);
-    adding.push(add(alloc, 6, 0, 1)?)?;
-    adding.push(add(alloc, 7, 1, 10)?)?;
-    let mut dummies = Sequence::new(alloc);
-    dummies.push(inout(alloc, "a")?)?;
-    dummies.push(inout(alloc, "b")?)?;
-    let mut subs = Sequence::new(alloc);
-    subs.push(SubR {
-        name: Text::copy_of(alloc, "f")?,
-        dummies,
-        locals: Sequence::new(alloc),
-        body: adding,
-    })?;
-    let mut actuals = Items::new(alloc);
-    actuals.push(ActualR::Scalar(0))?;
-    actuals.push(ActualR::Scalar(0))?;
-    let mut body = Items::new(alloc);
-    body.push(StmtR::Call {
-        line: 3,
-        sub: 0,
-        actuals,
-    })?;
-    body.push(print_variable(alloc, 4)?)?;
-    Ok(Accepted::of(Program {
-        objects: Sequence::from_slice(alloc, &[INTEGER])?,
-        names: names(alloc)?,
-        subs,
-        body,
-    }))
-}
-
-#[test]
-fn dummies_are_copied_out_from_left_to_right(rt: HostRuntime) -> Result<(), Fail> {
-    let alloc = rt.alloc();
-    // Both dummies begin at 0; 1 goes to `i` first, and then 10.
-    let summary = run(&rt, alloc, &copying_out_twice(alloc)?, 9)?;
-    expect(&rt, &summary, &["10"], None, Ending::Done);
     Ok(())
 }
