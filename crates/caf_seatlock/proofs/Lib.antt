@@ -1,0 +1,13 @@
+pub mod Sums
+pub mod Elements
+pub mod Fronts
+pub mod Standings
+pub mod Lines
+pub mod Values
+pub mod Drawing
+pub mod Looking
+pub mod Passing
+pub mod Settling
+pub mod Cutting
+pub mod Uniting
+pub mod Ends
