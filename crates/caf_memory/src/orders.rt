@@ -1,7 +1,7 @@
-ghost use Rattle.std.specs.Prelude.{◌≡◌, Ok, Err};
+ghost use Rattle.std.specs.Prelude.{◌≡◌, slice_get};
 ghost use Rattle.caf_base.specs.declared.operation.Section.{Section};
 ghost use Rattle.caf_base.specs.Orders.{copy_order as copies, event_found as found, with_events as completes};
-ghost use Rattle.caf_base.specs.Places.{bind, element_section as element, event_of, image_of as image, pointed_section as pointed_at, section_of};
+ghost use Rattle.caf_base.specs.Places.{bind, element_section as element, event_of, image_of as image, pointed_section as pointed_at, section_of, within as tested};
 ghost use Rattle.caf_memory.specs.Placed.{CanFind, IsAimed};
 
 use crate::ImageMemory;
@@ -26,6 +26,13 @@ impl ImageMemory {
             }
             Place::Of(object, rank) => member_of(self.team(object), rank),
         }
+    }
+
+    /// An index of an object; trap `Index` outside its bounds.
+    pub fn index_of(&self, object: u32, index: i64) -> Result<i64, Trap>
+        ensures { result ≡ tested (slice_get self.now.objects object) index }
+    {
+        within(self.object(object), index)
     }
 
     /// One element of an object at a place: trap `Index`, `Team`, `Rank`, in this order.
