@@ -1,0 +1,14 @@
+pub mod Begins
+pub mod Copied
+pub mod Ended
+pub mod Front
+pub mod Joined
+pub mod Outcome
+pub mod Overlay
+pub mod Ready
+pub mod Saved
+pub mod Settled
+pub mod Shaped
+pub mod Turn
+pub mod Wanted
+pub mod Within
