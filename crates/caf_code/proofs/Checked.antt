@@ -1,28 +1,18 @@
 -- A code whose shapes stand in rows, one for each part, keeps the rules if each row and each instruction does.
-use Rattle.std.proofs.Common.{◌≡◌, ℕ, zero, suc, ◌+◌, ◌<◌, List, [], ◌∷◌, length, Option, Some, None, sym, ap, subst, ◌∙◌, arith}
-use Rattle.std.specs.Prelude.{IsTrue, slice_get, slice_index_or, unwrap_or}
-use Rattle.std.specs.List.{AllByRecursion, list_all}
+use Rattle.std.proofs.Common.{◌≡◌, ℕ, zero, suc, ◌+◌, ◌<◌, List, [], ◌∷◌, length, Some, None, sym, ap, subst, ◌∙◌, arith}
+use Rattle.std.specs.Prelude.{slice_get, slice_index_or, unwrap_or}
+use Rattle.std.specs.List.{AllByRecursion}
 use Rattle.std.proofs.lemmas.Option.{none-some}
 use Rattle.caf_code.specs.Examples.{in_rows}
-use Rattle.caf_code.specs.Rules.{IsRight, KeepsRules, LeadOn, has_last_index}
+use Rattle.caf_code.specs.Rules.{IsRight, KeepsRules, LeadOn}
 use Rattle.caf_code.specs.Shapes.{Part, Main, Sub, Shape, leads, start_shape}
+use Rattle.caf_code.specs.Tables.{Agree, EachInstr, EachRow, EachStart, EachSub, KeepsByTables, Leads, Row}
 use Rattle.caf_code.specs.declared.instr.Instr.{Instr}
 use Rattle.caf_code.specs.declared.listing.Listing.{Listing}
 use Rattle.caf_code.specs.declared.listing.SubCode.{SubCode}
 
 same_some : {A : Type 0} (a b : A) → Some a ≡ Some b → a ≡ b
 same_some a b e = ap (λ o. unwrap_or o a) e
-
-abbrev pub Row : Type 0
-Row = List (Option Shape)
-
--- what holds of each shape of a row with the instruction beside it, where the first address is this
-abbrev pub EachRow : (ℕ → Instr → Shape → Type 0) → ℕ → Row → List Instr → Type 0
-EachRow P k [] is = Unit {0}
-EachRow P k (None ∷ row) [] = EachRow P (suc k) row []
-EachRow P k (None ∷ row) (i ∷ is) = EachRow P (suc k) row is
-EachRow P k (Some h ∷ row) [] = ⊥
-EachRow P k (Some h ∷ row) (i ∷ is) = P k i h × EachRow P (suc k) row is
 
 at_row : (P : ℕ → Instr → Shape → Type 0) (k : ℕ) (row : Row) (is : List Instr) → EachRow P k row is → (a : ℕ) (i : Instr) (h : Shape) → slice_index_or row a None ≡ Some h → slice_get is a ≡ Some i → P (k + a) i h
 at_row P k [] is each a i h stands at = absurd (none-some h stands)
@@ -48,11 +38,6 @@ in_row P k (None ∷ row) (j ∷ is) each (suc a) h stands = let lt : a < length
 in_row P k (Some g ∷ row) (j ∷ is) each zero h stands = omega arith
 in_row P k (Some g ∷ row) (j ∷ is) each (suc a) h stands = let lt : a < length is = in_row P (suc k) row is each.1 a h stands in omega (arith, lt)
 
--- what holds of each row of a subroutine, where the first one is this
-abbrev pub EachSub : (Part → ℕ → Instr → Shape → Type 0) → ℕ → List Row → List Instr → Type 0
-EachSub P f [] is = Unit {0}
-EachSub P f (row ∷ rows) is = EachRow (P (Sub f)) 0 row is × EachSub P (suc f) rows is
-
 at_sub : (P : Part → ℕ → Instr → Shape → Type 0) (f : ℕ) (rows : List Row) (is : List Instr) → EachSub P f rows is → (g : ℕ) → EachRow (P (Sub (f + g))) 0 (slice_index_or rows g []) is
 at_sub P f [] is each g = tt
 at_sub P f (row ∷ rows) is each zero = let e : f ≡ f + zero = omega arith in subst (λ n. EachRow (P (Sub n)) 0 row is) e each.0
@@ -61,25 +46,11 @@ at_sub P f (row ∷ rows) is each (suc g) = let e : suc f + g ≡ f + suc g = om
 at_sub_of : (P : Part → ℕ → Instr → Shape → Type 0) (rows : List Row) (is : List Instr) → EachSub P 0 rows is → (g : ℕ) → EachRow (P (Sub g)) 0 (slice_index_or rows g []) is
 at_sub_of P rows is each g = let e : 0 + g ≡ g = omega arith in subst (λ n. EachRow (P (Sub n)) 0 (slice_index_or rows g []) is) e (at_sub P 0 rows is each g)
 
--- each subroutine has a row that begins at its address
-abbrev pub EachStart : List SubCode → List Row → Type 0
-EachStart [] rows = Unit {0}
-EachStart (sub ∷ subs) [] = ⊥
-EachStart (sub ∷ subs) (row ∷ rows) = (slice_index_or row sub.address None ≡ Some (start_shape 0)) × EachStart subs rows
-
 at_start : (subs : List SubCode) (rows : List Row) → EachStart subs rows → (f : ℕ) (sub : SubCode) → slice_get subs f ≡ Some sub → slice_index_or (slice_index_or rows f []) sub.address None ≡ Some (start_shape 0)
 at_start [] rows each f sub at = absurd (none-some sub at)
 at_start (s ∷ subs) [] each f sub at = absurd each
 at_start (s ∷ subs) (row ∷ rows) each zero sub at = subst (λ (x : SubCode). slice_index_or row x.address None ≡ Some (start_shape 0)) (same_some s sub at) each.0
 at_start (s ∷ subs) (row ∷ rows) each (suc f) sub at = at_start subs rows each.1 f sub at
-
--- two rows have one shape where both have one
-abbrev pub Agree : Row → Row → Type 0
-Agree row [] = Unit {0}
-Agree [] (y ∷ other) = Unit {0}
-Agree (None ∷ row) (y ∷ other) = Agree row other
-Agree (Some h ∷ row) (None ∷ other) = Agree row other
-Agree (Some h ∷ row) (Some k ∷ other) = (h ≡ k) × Agree row other
 
 agree_at : (row other : Row) → Agree row other → (a : ℕ) (h k : Shape) → slice_index_or row a None ≡ Some h → slice_index_or other a None ≡ Some k → h ≡ k
 agree_at row [] agree a h k stands too = absurd (none-some k too)
@@ -105,11 +76,6 @@ all_empty : (rows : List Row) → AllByRecursion (Agree []) rows
 all_empty [] = tt
 all_empty (row ∷ rows) = (empty_agrees row, all_empty rows)
 
--- what holds of each instruction, where the first address is this
-abbrev pub EachInstr : (ℕ → Instr → Type 0) → ℕ → List Instr → Type 0
-EachInstr P k [] = Unit {0}
-EachInstr P k (i ∷ is) = P k i × EachInstr P (suc k) is
-
 at_instr : (P : ℕ → Instr → Type 0) (k : ℕ) (is : List Instr) → EachInstr P k is → (a : ℕ) (i : Instr) → slice_get is a ≡ Some i → P (k + a) i
 at_instr P k [] each a i at = absurd (none-some i at)
 at_instr P k (j ∷ is) each zero i at = let e : k ≡ k + zero = omega arith in subst (λ n. P n i) e (subst (P k) (same_some j i at) each.0)
@@ -118,44 +84,31 @@ at_instr P k (j ∷ is) each (suc a) i at = let e : suc k + a ≡ k + suc a = om
 at_instr_of : (P : ℕ → Instr → Type 0) (is : List Instr) → EachInstr P 0 is → (a : ℕ) (i : Instr) → slice_get is a ≡ Some i → P a i
 at_instr_of P is each a i at = let e : 0 + a ≡ a = omega arith in subst (λ n. P n i) e (at_instr P 0 is each a i at)
 
--- an instruction of a part leads to the shapes of these rows
-abbrev pub Leads : Listing → Row → List Row → Part → ℕ → Instr → Shape → Type 0
-Leads code main subs p a i h = LeadOn (in_rows main subs) p (leads code p a i h)
-
-pub by_tables : (code : Listing) (main : Row) (subs : List Row)
-    → IsTrue (list_all has_last_index code.objects)
-    → EachInstr (IsRight code) 0 code.instrs
-    → slice_index_or main 0 None ≡ Some (start_shape 1)
-    → EachStart code.subs subs
-    → EachRow (Leads code main subs Main) 0 main code.instrs
-    → EachSub (Leads code main subs) 0 subs code.instrs
-    → AllByRecursion (Agree main) subs
-    → AllByRecursion (λ row. AllByRecursion (Agree row) subs) subs
-    → KeepsRules code
-by_tables code main subs objects right start starts of_main of_subs apart between = record {
-  objects = objects;
-  instrs = at_instr_of (IsRight code) code.instrs right;
+pub by_tables : (code : Listing) (main : Row) (subs : List Row) → KeepsByTables code main subs → KeepsRules code
+by_tables code main subs kept = record {
+  objects = kept.objects;
+  instrs = at_instr_of (IsRight code) code.instrs kept.instrs;
   shapes = in_rows main subs;
   shaped = record {
-    main = start;
-    subs = at_start code.subs subs starts;
+    main = kept.start;
+    subs = at_start code.subs subs kept.starts;
     inside = inside;
     leading = leading;
     agreeing = agreeing;
   };
 } where
   inside : (p : Part) (a : ℕ) (h : Shape) → in_rows main subs p a ≡ Some h → a < length code.instrs
-  inside Main a h stands = in_row (Leads code main subs Main) 0 main code.instrs of_main a h stands
-  inside (Sub f) a h stands = in_row (Leads code main subs (Sub f)) 0 (slice_index_or subs f []) code.instrs (at_sub_of (Leads code main subs) subs code.instrs of_subs f) a h stands
+  inside Main a h stands = in_row (Leads code main subs Main) 0 main code.instrs kept.of_main a h stands
+  inside (Sub f) a h stands = in_row (Leads code main subs (Sub f)) 0 (slice_index_or subs f []) code.instrs (at_sub_of (Leads code main subs) subs code.instrs kept.of_subs f) a h stands
 
   leading : (p : Part) (a : ℕ) (h : Shape) (i : Instr) → in_rows main subs p a ≡ Some h → slice_get code.instrs a ≡ Some i → LeadOn (in_rows main subs) p (leads code p a i h)
-  leading Main a h i stands at = at_row_of (Leads code main subs Main) main code.instrs of_main a i h stands at
-  leading (Sub f) a h i stands at = at_row_of (Leads code main subs (Sub f)) (slice_index_or subs f []) code.instrs (at_sub_of (Leads code main subs) subs code.instrs of_subs f) a i h stands at
+  leading Main a h i stands at = at_row_of (Leads code main subs Main) main code.instrs kept.of_main a i h stands at
+  leading (Sub f) a h i stands at = at_row_of (Leads code main subs (Sub f)) (slice_index_or subs f []) code.instrs (at_sub_of (Leads code main subs) subs code.instrs kept.of_subs f) a i h stands at
 
   agreeing : (p q : Part) (a : ℕ) (h k : Shape) → in_rows main subs p a ≡ Some h → in_rows main subs q a ≡ Some k → h ≡ k
   agreeing Main Main a h k stands too = same_some h k (sym stands ∙ too)
-  agreeing Main (Sub f) a h k stands too = agree_at main (slice_index_or subs f []) (of_each (Agree main) tt subs apart f) a h k stands too
-  agreeing (Sub f) Main a h k stands too = sym (agree_at main (slice_index_or subs f []) (of_each (Agree main) tt subs apart f) a k h too stands)
+  agreeing Main (Sub f) a h k stands too = agree_at main (slice_index_or subs f []) (of_each (Agree main) tt subs kept.apart f) a h k stands too
+  agreeing (Sub f) Main a h k stands too = sym (agree_at main (slice_index_or subs f []) (of_each (Agree main) tt subs kept.apart f) a k h too stands)
   agreeing (Sub f) (Sub g) a h k stands too =
       agree_at (slice_index_or subs f []) (slice_index_or subs g [])
-      (of_each (Agree (slice_index_or subs f [])) tt subs (of_each (λ row. AllByRecursion (Agree row) subs) (all_empty subs) subs between f) g) a h k stands too
+      (of_each (Agree (slice_index_or subs f [])) tt subs (of_each (λ row. AllByRecursion (Agree row) subs) (all_empty subs) subs kept.between f) g) a h k stands too

@@ -19,25 +19,37 @@ kept_as code keeps objects subs texts instrs same_objects same_subs same_texts s
     (subst (λ x. KeepsRules (record { objects = code.objects; subs = code.subs; texts = code.texts; instrs = x })) (sym same_instrs) keeps)))
 
 pub sums_keeps_rules : KeepsRules sums_code
-sums_keeps_rules = by_tables sums_code sums_main sums_subs refl
-    (record { operands = refl; followed = refl; steady = refl; rests = refl }, (record { operands = refl; followed = refl; steady = refl; rests = refl }, (record { operands = refl; followed = refl; steady = refl; rests = refl }, (record { operands = refl; followed = refl; steady = refl; rests = refl }, (record { operands = refl; followed = refl; steady = refl; rests = refl }, (record { operands = refl; followed = refl; steady = refl; rests = refl }, (record { operands = refl; followed = refl; steady = refl; rests = refl }, (record { operands = refl; followed = refl; steady = refl; rests = refl }, (record { operands = refl; followed = refl; steady = refl; rests = refl }, (record { operands = refl; followed = refl; steady = refl; rests = refl }, (record { operands = refl; followed = refl; steady = refl; rests = refl }, (record { operands = refl; followed = refl; steady = refl; rests = refl }, (record { operands = refl; followed = refl; steady = refl; rests = refl }, (record { operands = refl; followed = refl; steady = refl; rests = refl }, (record { operands = refl; followed = refl; steady = refl; rests = refl }, (record { operands = refl; followed = refl; steady = refl; rests = refl }, (record { operands = refl; followed = refl; steady = refl; rests = refl }, (record { operands = refl; followed = refl; steady = refl; rests = refl }, tt))))))))))))))))))
-    refl tt
-    ((refl, tt), ((refl, tt), ((refl, tt), ((refl, tt), ((refl, tt), ((refl, tt), ((refl, tt), ((refl, tt), ((refl, tt), ((refl, tt), ((refl, tt), ((refl, tt), ((refl, tt), ((refl, tt), ((refl, tt), ((refl, tt), ((refl, tt), (tt, tt))))))))))))))))))
-    tt
-    tt tt
+sums_keeps_rules = by_tables sums_code sums_main sums_subs (record {
+  objects = refl;
+  instrs = (record { operands = refl; followed = refl; steady = refl; rests = refl }, (record { operands = refl; followed = refl; steady = refl; rests = refl }, (record { operands = refl; followed = refl; steady = refl; rests = refl }, (record { operands = refl; followed = refl; steady = refl; rests = refl }, (record { operands = refl; followed = refl; steady = refl; rests = refl }, (record { operands = refl; followed = refl; steady = refl; rests = refl }, (record { operands = refl; followed = refl; steady = refl; rests = refl }, (record { operands = refl; followed = refl; steady = refl; rests = refl }, (record { operands = refl; followed = refl; steady = refl; rests = refl }, (record { operands = refl; followed = refl; steady = refl; rests = refl }, (record { operands = refl; followed = refl; steady = refl; rests = refl }, (record { operands = refl; followed = refl; steady = refl; rests = refl }, (record { operands = refl; followed = refl; steady = refl; rests = refl }, (record { operands = refl; followed = refl; steady = refl; rests = refl }, (record { operands = refl; followed = refl; steady = refl; rests = refl }, (record { operands = refl; followed = refl; steady = refl; rests = refl }, (record { operands = refl; followed = refl; steady = refl; rests = refl }, (record { operands = refl; followed = refl; steady = refl; rests = refl }, tt))))))))))))))))));
+  start = refl;
+  starts = tt;
+  of_main = ((refl, tt), ((refl, tt), ((refl, tt), ((refl, tt), ((refl, tt), ((refl, tt), ((refl, tt), ((refl, tt), ((refl, tt), ((refl, tt), ((refl, tt), ((refl, tt), ((refl, tt), ((refl, tt), ((refl, tt), ((refl, tt), ((refl, tt), (tt, tt))))))))))))))))));
+  of_subs = tt;
+  apart = tt;
+  between = tt;
+})
 
 pub loops_keeps_rules : KeepsRules loops_code
-loops_keeps_rules = by_tables loops_code loops_main loops_subs refl
-    (record { operands = refl; followed = refl; steady = refl; rests = refl }, (record { operands = refl; followed = refl; steady = refl; rests = refl }, (record { operands = refl; followed = refl; steady = refl; rests = refl }, (record { operands = refl; followed = refl; steady = refl; rests = refl }, (record { operands = refl; followed = refl; steady = refl; rests = refl }, (record { operands = refl; followed = refl; steady = refl; rests = refl }, (record { operands = refl; followed = refl; steady = refl; rests = refl }, (record { operands = refl; followed = refl; steady = refl; rests = refl }, (record { operands = refl; followed = refl; steady = refl; rests = refl }, (record { operands = refl; followed = refl; steady = refl; rests = refl }, (record { operands = refl; followed = refl; steady = refl; rests = refl }, (record { operands = refl; followed = refl; steady = refl; rests = refl }, (record { operands = refl; followed = refl; steady = refl; rests = refl }, (record { operands = refl; followed = refl; steady = refl; rests = refl }, (record { operands = refl; followed = refl; steady = refl; rests = refl }, (record { operands = refl; followed = refl; steady = refl; rests = refl }, (record { operands = refl; followed = refl; steady = refl; rests = refl }, (record { operands = refl; followed = refl; steady = refl; rests = refl }, (record { operands = refl; followed = refl; steady = refl; rests = refl }, (record { operands = refl; followed = refl; steady = refl; rests = refl }, (record { operands = refl; followed = refl; steady = refl; rests = refl }, (record { operands = refl; followed = refl; steady = refl; rests = refl }, (record { operands = refl; followed = refl; steady = refl; rests = refl }, (record { operands = refl; followed = refl; steady = refl; rests = refl }, (record { operands = refl; followed = refl; steady = refl; rests = refl }, (record { operands = refl; followed = refl; steady = refl; rests = refl }, (record { operands = refl; followed = refl; steady = refl; rests = refl }, (record { operands = refl; followed = refl; steady = refl; rests = refl }, (record { operands = refl; followed = refl; steady = refl; rests = refl }, (record { operands = refl; followed = refl; steady = refl; rests = refl }, (record { operands = refl; followed = refl; steady = refl; rests = refl }, (record { operands = refl; followed = refl; steady = refl; rests = refl }, tt))))))))))))))))))))))))))))))))
-    refl tt
-    ((refl, tt), ((refl, tt), ((refl, tt), ((refl, tt), ((refl, tt), ((refl, (refl, tt)), ((refl, tt), ((refl, tt), ((refl, tt), ((refl, tt), ((refl, tt), ((refl, tt), ((refl, (refl, tt)), ((refl, tt), ((refl, tt), ((refl, tt), ((refl, tt), ((refl, tt), ((refl, tt), ((refl, tt), ((refl, tt), ((refl, (refl, tt)), ((refl, tt), ((refl, tt), ((refl, tt), ((refl, tt), ((refl, (refl, tt)), ((refl, tt), ((refl, tt), ((refl, tt), ((refl, tt), (tt, tt))))))))))))))))))))))))))))))))
-    tt
-    tt tt
+loops_keeps_rules = by_tables loops_code loops_main loops_subs (record {
+  objects = refl;
+  instrs = (record { operands = refl; followed = refl; steady = refl; rests = refl }, (record { operands = refl; followed = refl; steady = refl; rests = refl }, (record { operands = refl; followed = refl; steady = refl; rests = refl }, (record { operands = refl; followed = refl; steady = refl; rests = refl }, (record { operands = refl; followed = refl; steady = refl; rests = refl }, (record { operands = refl; followed = refl; steady = refl; rests = refl }, (record { operands = refl; followed = refl; steady = refl; rests = refl }, (record { operands = refl; followed = refl; steady = refl; rests = refl }, (record { operands = refl; followed = refl; steady = refl; rests = refl }, (record { operands = refl; followed = refl; steady = refl; rests = refl }, (record { operands = refl; followed = refl; steady = refl; rests = refl }, (record { operands = refl; followed = refl; steady = refl; rests = refl }, (record { operands = refl; followed = refl; steady = refl; rests = refl }, (record { operands = refl; followed = refl; steady = refl; rests = refl }, (record { operands = refl; followed = refl; steady = refl; rests = refl }, (record { operands = refl; followed = refl; steady = refl; rests = refl }, (record { operands = refl; followed = refl; steady = refl; rests = refl }, (record { operands = refl; followed = refl; steady = refl; rests = refl }, (record { operands = refl; followed = refl; steady = refl; rests = refl }, (record { operands = refl; followed = refl; steady = refl; rests = refl }, (record { operands = refl; followed = refl; steady = refl; rests = refl }, (record { operands = refl; followed = refl; steady = refl; rests = refl }, (record { operands = refl; followed = refl; steady = refl; rests = refl }, (record { operands = refl; followed = refl; steady = refl; rests = refl }, (record { operands = refl; followed = refl; steady = refl; rests = refl }, (record { operands = refl; followed = refl; steady = refl; rests = refl }, (record { operands = refl; followed = refl; steady = refl; rests = refl }, (record { operands = refl; followed = refl; steady = refl; rests = refl }, (record { operands = refl; followed = refl; steady = refl; rests = refl }, (record { operands = refl; followed = refl; steady = refl; rests = refl }, (record { operands = refl; followed = refl; steady = refl; rests = refl }, (record { operands = refl; followed = refl; steady = refl; rests = refl }, tt))))))))))))))))))))))))))))))));
+  start = refl;
+  starts = tt;
+  of_main = ((refl, tt), ((refl, tt), ((refl, tt), ((refl, tt), ((refl, tt), ((refl, (refl, tt)), ((refl, tt), ((refl, tt), ((refl, tt), ((refl, tt), ((refl, tt), ((refl, tt), ((refl, (refl, tt)), ((refl, tt), ((refl, tt), ((refl, tt), ((refl, tt), ((refl, tt), ((refl, tt), ((refl, tt), ((refl, tt), ((refl, (refl, tt)), ((refl, tt), ((refl, tt), ((refl, tt), ((refl, tt), ((refl, (refl, tt)), ((refl, tt), ((refl, tt), ((refl, tt), ((refl, tt), (tt, tt))))))))))))))))))))))))))))))));
+  of_subs = tt;
+  apart = tt;
+  between = tt;
+})
 
 pub calls_keeps_rules : KeepsRules calls_code
-calls_keeps_rules = by_tables calls_code calls_main calls_subs refl
-    (record { operands = refl; followed = refl; steady = refl; rests = refl }, (record { operands = refl; followed = refl; steady = refl; rests = refl }, (record { operands = refl; followed = refl; steady = refl; rests = refl }, (record { operands = refl; followed = refl; steady = refl; rests = refl }, (record { operands = refl; followed = refl; steady = refl; rests = refl }, (record { operands = refl; followed = refl; steady = refl; rests = refl }, (record { operands = refl; followed = refl; steady = refl; rests = refl }, (record { operands = refl; followed = refl; steady = refl; rests = refl }, (record { operands = refl; followed = refl; steady = refl; rests = refl }, (record { operands = refl; followed = refl; steady = refl; rests = refl }, (record { operands = refl; followed = refl; steady = refl; rests = refl }, (record { operands = refl; followed = refl; steady = refl; rests = refl }, tt))))))))))))
-    refl (refl, tt)
-    ((refl, tt), ((refl, tt), ((refl, tt), (tt, tt))))
-    (((refl, tt), ((refl, tt), ((refl, tt), ((refl, tt), ((refl, tt), ((refl, tt), ((refl, tt), (tt, tt)))))))), tt)
-    (tt, tt) (((refl, (refl, (refl, (refl, (refl, (refl, (refl, (refl, tt)))))))), tt), tt)
+calls_keeps_rules = by_tables calls_code calls_main calls_subs (record {
+  objects = refl;
+  instrs = (record { operands = refl; followed = refl; steady = refl; rests = refl }, (record { operands = refl; followed = refl; steady = refl; rests = refl }, (record { operands = refl; followed = refl; steady = refl; rests = refl }, (record { operands = refl; followed = refl; steady = refl; rests = refl }, (record { operands = refl; followed = refl; steady = refl; rests = refl }, (record { operands = refl; followed = refl; steady = refl; rests = refl }, (record { operands = refl; followed = refl; steady = refl; rests = refl }, (record { operands = refl; followed = refl; steady = refl; rests = refl }, (record { operands = refl; followed = refl; steady = refl; rests = refl }, (record { operands = refl; followed = refl; steady = refl; rests = refl }, (record { operands = refl; followed = refl; steady = refl; rests = refl }, (record { operands = refl; followed = refl; steady = refl; rests = refl }, tt))))))))))));
+  start = refl;
+  starts = (refl, tt);
+  of_main = ((refl, tt), ((refl, tt), ((refl, tt), (tt, tt))));
+  of_subs = (((refl, tt), ((refl, tt), ((refl, tt), ((refl, tt), ((refl, tt), ((refl, tt), ((refl, tt), (tt, tt)))))))), tt);
+  apart = (tt, tt);
+  between = (((refl, (refl, (refl, (refl, (refl, (refl, (refl, (refl, tt)))))))), tt), tt);
+})

@@ -21,7 +21,7 @@ use Rattle.caf_code.specs.declared.listing.SubCode.{SubCode}
 use Rattle.caf_code.specs.declared.task.Wait.{Wait}
 use Rattle.caf_code.specs.declared.task.Wait.TheVariants as wait
 use Rattle.caf_base.specs.declared.team.Team.{Team}
-use Rattle.caf_code.proofs.Memory.{Leaves, row_memory, start_sound, team_sound}
+use Rattle.caf_code.proofs.Memory.{IsMemoryOf, Leaves, row_memory, start_sound, team_sound}
 use Rattle.caf_code.proofs.Rows.{Mid, Onward, Over, length_snoc, new_cells}
 use Rattle.caf_code.proofs.Steps.{free_mid, row_at}
 use Rattle.caf_code.proofs.Whole.{Fine}
@@ -203,40 +203,44 @@ shipped_sound code keeps images f sub arguments event named given carried = reco
 }
 
 -- the memory that a Step leaves
-then_memory : (code : Listing) (shapes : Shapes) (images : ℕ) (p : Part) (next : Option ℕ) (d : Did) (go : Task → ImageMemory → Did)
-    → Fine (Onward code shapes images p next) (Over code shapes images) d → Leaves code d → ((t : Task) (m : ImageMemory) → Mid code shapes images p t → IsSoundMemory code m → Leaves code (go t m)) → Leaves code (then_run d go)
-then_memory code shapes images p next (Goes t m) go fine leaves after = after t m fine.0 leaves
-then_memory code shapes images p next (Stops e t m) go fine leaves after = leaves
-then_memory code shapes images p next (Blocks n) go fine leaves after = tt
-then_memory code shapes images p next (Fails trap m) go fine leaves after = leaves
-then_memory code shapes images p next (Lacks m) go fine leaves after = leaves
+then_memory : (code : Listing) (here all : ℕ) (shapes : Shapes) (images : ℕ) (p : Part) (next : Option ℕ) (d : Did) (go : Task → ImageMemory → Did)
+    → Fine (Onward code shapes images p next) (Over code shapes images) d → Leaves code here all d → ((t : Task) (m : ImageMemory) → Mid code shapes images p t → IsMemoryOf code here all m → Leaves code here all (go t m)) → Leaves code here all (then_run d go)
+then_memory code here all shapes images p next (Goes t m) go fine leaves after = after t m fine.0 leaves
+then_memory code here all shapes images p next (Stops e t m) go fine leaves after = leaves
+then_memory code here all shapes images p next (Blocks n) go fine leaves after = tt
+then_memory code here all shapes images p next (Fails trap m) go fine leaves after = leaves
+then_memory code here all shapes images p next (Lacks m) go fine leaves after = leaves
 
-at_memory : (code : Listing) (keeps : KeepsRules code) (shapes : Shapes) (shaped : AreShapes code shapes) (clear : FenceClear) (images : ℕ) (p : Part) (n : ℕ)
-    (after : (t : Task) (m : ImageMemory) → Mid code shapes images p t → IsSoundMemory code m → Leaves code (exec code clear n t m))
-    (t : Task) (m : ImageMemory) (o : Option Instr) → slice_get code.instrs t.address ≡ o → Mid code shapes images p t → IsSoundMemory code m → Leaves code (then_run (does_at code clear o t m) (exec code clear n))
-at_memory code keeps shapes shaped clear images p n after t m None at mid sound = sound
-at_memory code keeps shapes shaped clear images p n after t m (Some i) at mid sound =
-    then_memory code shapes images p (goes_on t.address i) (does code clear i t m) (exec code clear n) (row_at code keeps shapes shaped clear images p t m mid i at)
-    (row_memory code clear i t m sound (keeps.instrs t.address i at).operands mid.frame.listed) after
+at_memory : (code : Listing) (here all : ℕ) (keeps : KeepsRules code) (shapes : Shapes) (shaped : AreShapes code shapes) (clear : FenceClear) (images : ℕ) (p : Part) (n : ℕ)
+    (after : (t : Task) (m : ImageMemory) → Mid code shapes images p t → IsMemoryOf code here all m → Leaves code here all (exec code clear n t m))
+    (t : Task) (m : ImageMemory) (o : Option Instr) → slice_get code.instrs t.address ≡ o → Mid code shapes images p t → IsMemoryOf code here all m → Leaves code here all (then_run (does_at code clear o t m) (exec code clear n))
+at_memory code here all keeps shapes shaped clear images p n after t m None at mid sound = sound
+at_memory code here all keeps shapes shaped clear images p n after t m (Some i) at mid sound =
+    then_memory code here all shapes images p (goes_on t.address i) (does code clear i t m) (exec code clear n) (row_at code keeps shapes shaped clear images p t m mid i at)
+    (row_memory code here all clear i t m sound (keeps.instrs t.address i at).operands mid.frame.listed) after
 
-exec_memory : (code : Listing) (keeps : KeepsRules code) (shapes : Shapes) (shaped : AreShapes code shapes) (clear : FenceClear) (images : ℕ) (p : Part) (n : ℕ) (t : Task) (m : ImageMemory)
-    → Mid code shapes images p t → IsSoundMemory code m → Leaves code (exec code clear n t m)
-exec_memory code keeps shapes shaped clear images p zero t m mid sound = sound
-exec_memory code keeps shapes shaped clear images p (suc n) t m mid sound =
-    at_memory code keeps shapes shaped clear images p n (exec_memory code keeps shapes shaped clear images p n) t m (slice_get code.instrs t.address) refl mid sound
+exec_memory : (code : Listing) (here all : ℕ) (keeps : KeepsRules code) (shapes : Shapes) (shaped : AreShapes code shapes) (clear : FenceClear) (images : ℕ) (p : Part) (n : ℕ) (t : Task) (m : ImageMemory)
+    → Mid code shapes images p t → IsMemoryOf code here all m → Leaves code here all (exec code clear n t m)
+exec_memory code here all keeps shapes shaped clear images p zero t m mid sound = sound
+exec_memory code here all keeps shapes shaped clear images p (suc n) t m mid sound =
+    at_memory code here all keeps shapes shaped clear images p n (exec_memory code here all keeps shapes shaped clear images p n) t m (slice_get code.instrs t.address) refl mid sound
 
-ended_memory : (code : Listing) (t : Task) (m : ImageMemory) (d : Did) → IsSoundMemory code m → Leaves code d → IsSoundMemory code (ended code t m d).memory
-ended_memory code t m (Stops e t' m') sound leaves = leaves
-ended_memory code t m (Blocks n) sound leaves = sound
-ended_memory code t m (Fails trap m') sound leaves = leaves
-ended_memory code t m (Goes t' m') sound leaves = leaves
-ended_memory code t m (Lacks m') sound leaves = leaves
+ended_memory : (code : Listing) (here all : ℕ) (t : Task) (m : ImageMemory) (d : Did) → IsMemoryOf code here all m → Leaves code here all d → IsMemoryOf code here all (ended code t m d).memory
+ended_memory code here all t m (Stops e t' m') sound leaves = leaves
+ended_memory code here all t m (Blocks n) sound leaves = sound
+ended_memory code here all t m (Fails trap m') sound leaves = leaves
+ended_memory code here all t m (Goes t' m') sound leaves = leaves
+ended_memory code here all t m (Lacks m') sound leaves = leaves
 
-waiting_memory : (code : Listing) (keeps : KeepsRules code) (clear : FenceClear) (t : Task) (m : ImageMemory) (w : Option Wait) → t.wait ≡ w → IsSound code t m → IsSoundMemory code (unless_waiting w code clear t m).memory
-waiting_memory code keeps clear t m (Some w) is sound = sound.memory
+-- it is the same image's, among as many
+of_itself : (code : Listing) (m : ImageMemory) → IsSoundMemory code m → IsMemoryOf code m.image m.images m
+of_itself code m sound = record { sound = sound; image = refl; images = refl }
+
+waiting_memory : (code : Listing) (keeps : KeepsRules code) (clear : FenceClear) (t : Task) (m : ImageMemory) (w : Option Wait) → t.wait ≡ w → IsSound code t m → IsMemoryOf code m.image m.images (unless_waiting w code clear t m).memory
+waiting_memory code keeps clear t m (Some w) is sound = of_itself code m sound.memory
 waiting_memory code keeps clear t m None is sound =
-    ended_memory code t m (exec code clear (length code.instrs) t m) sound.memory
-    (exec_memory code keeps sound.task.shapes sound.task.shaped clear m.images sound.task.stands.part (length code.instrs) t m (free_mid code sound.task.shapes m.images t sound.task.stands is) sound.memory)
+    ended_memory code m.image m.images t m (exec code clear (length code.instrs) t m) (of_itself code m sound.memory)
+    (exec_memory code m.image m.images keeps sound.task.shapes sound.task.shaped clear m.images sound.task.stands.part (length code.instrs) t m (free_mid code sound.task.shapes m.images t sound.task.stands is) (of_itself code m sound.memory))
 
 parted_memory_sound : (code : Listing) (m : ImageMemory) (w : Option Wait) (new : Team) → is_wait code w ≡ true → IsSoundMemory code m → IsSoundTeam m.image m.images new → IsSoundMemory code (parted_memory w new m)
 parted_memory_sound code m None new named sound good = sound
@@ -253,6 +257,8 @@ keeps_sound code keeps = record {
   leaves = left_sound code;
   parts = parted_sound code;
   begins = start_sound code;
-  memory = λ clear t m sound. waiting_memory code keeps clear t m t.wait refl sound;
+  memory = λ clear t m sound. (waiting_memory code keeps clear t m t.wait refl sound).sound;
+  image = λ clear t m sound. (waiting_memory code keeps clear t m t.wait refl sound).image;
+  images = λ clear t m sound. (waiting_memory code keeps clear t m t.wait refl sound).images;
   team = λ t m new sound good. parted_memory_sound code m t.wait new sound.task.stands.wait sound.memory good;
 }

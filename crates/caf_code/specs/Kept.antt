@@ -36,4 +36,7 @@ pub record KeepsSound (code : Listing) : Type 0 where
   -- the memory with which an image begins, that after a Step, and that with the new team of a split
   pub begins : (images image : ℕ) → image < images → IsSoundMemory code (start_memory code.objects images image)
   pub memory : (clear : FenceClear) (t : Task) (m : ImageMemory) → IsSound code t m → IsSoundMemory code (runs code clear t m).memory
+  -- a Step leaves the memory the same image's, among as many
+  pub image : (clear : FenceClear) (t : Task) (m : ImageMemory) → IsSound code t m → (runs code clear t m).memory.image ≡ m.image
+  pub images : (clear : FenceClear) (t : Task) (m : ImageMemory) → IsSound code t m → (runs code clear t m).memory.images ≡ m.images
   pub team : (t : Task) (m : ImageMemory) (new : Team) → IsSound code t m → IsSoundTeam m.image m.images new → IsSoundMemory code (parted_memory t.wait new m)

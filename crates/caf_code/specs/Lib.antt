@@ -14,3 +14,4 @@ pub mod Listing
 pub mod Examples
 pub mod Whole
 pub mod Kept
+pub mod Tables

@@ -2,6 +2,7 @@
 
 ghost use Rattle.caf_code.specs.Kept.{KeepsSound};
 ghost use Rattle.caf_code.specs.Rules.{KeepsRules};
+ghost use Rattle.caf_code.specs.Tables.{TablesShowRules};
 ghost use Rattle.caf_code.specs.Whole.{ComesToRest, LacksNothing};
 ghost use Rattle.caf_code.specs.declared.listing.Listing.{Listing};
 
@@ -17,4 +18,9 @@ pub fn steps_lack_nothing()
 /// team of a split, the task up to its end or a trap.
 pub fn tasks_stay_sound()
     ensures { (code : Listing) → KeepsRules code → KeepsSound code }
+{}
+
+/// A code keeps the rules where rows of shapes, one for its main program and one for each subroutine, show it.
+pub fn tables_show_rules()
+    ensures { TablesShowRules }
 {}

@@ -18,7 +18,7 @@ pub use instr::{
     Arithmetic, CellUse, ElementForm, EventUse, Instr, Logical, OutForm, PlaceForm, Printed,
     RangeForm, Reach, Relation, Role, SectionForm, SectionUse, TeamName, TeamQuery,
 };
-pub use law::{steps_lack_nothing, tasks_stay_sound};
+pub use law::{steps_lack_nothing, tables_show_rules, tasks_stay_sound};
 pub use listing::{Listing, SubCode};
 pub use print::print_listing;
 pub use task::{CopyOut, CopyTarget, Listed, Loop, Wait};

@@ -1,13 +1,24 @@
 //! The address after every `go`.
 
 ghost use Rattle.std.specs.Prelude.{◌≡◌, length, slice_get};
-ghost use Rattle.caf_code.specs.Step.{go_of, settled};
+ghost use Rattle.caf_code.specs.Step.{go_of, settled, settled_in};
+ghost use Rattle.caf_code.specs.Task.{Task};
+ghost use Rattle.caf_code.specs.Whole.{IsSettled};
 
-use caf_code::Instr;
+use caf_code::{Code, Instr, steps_lack_nothing};
+
+// The address of a code after every `go`.
+pub fn settle_in(code: &Code, address: usize) -> usize
+    ensures settled { result ≡ settled_in code.now address }
+    ensures rests { (t : Task) → t.address ≡ result → IsSettled code.now t }
+{
+    steps_lack_nothing();
+    settle(code.listing().instrs.as_slice(), address)
+}
 
 // The address after every `go`. No cycle consists of `go` alone, so there are no more of them than instructions.
 #[tactic(auto, using(crate::proofs::Settled::settled_turn, crate::proofs::Settled::settled_same))]
-pub fn settle(instrs: &[Instr], address: usize) -> usize
+fn settle(instrs: &[Instr], address: usize) -> usize
     ensures { result ≡ settled instrs.now (length instrs.now) address }
 {
     let mut at = address;

@@ -16,7 +16,7 @@ use crate::draft::Draft;
 use crate::end::end;
 use crate::ends::trap;
 use crate::need::need_of;
-use crate::settle::settle;
+use crate::settle::settle_in;
 use crate::stop::Stop;
 use crate::{Memory, Task};
 use caf_base::{Effect, FenceClear};
@@ -44,8 +44,9 @@ pub fn statement(
     steps_lack_nothing();
     let listing = code.listing();
     let instrs = listing.instrs.as_slice();
+    prove!(task.address() < instrs.len());
     let effect = step(listing, task, memory, clear)?;
-    let address = settle(instrs, task.address());
+    let address = settle_in(code, task.address());
     task.go_on(address);
     Ok(effect)
 }

@@ -8,13 +8,14 @@ ghost use Rattle.caf_code.specs.declared.listing.SubCode.{SubCode};
 ghost use Rattle.caf_vm.specs.Begun.{begun};
 ghost use Rattle.caf_vm.specs.Frames.{SameFrame, call_of};
 ghost use Rattle.caf_code.specs.Task.{ends_at, past, OpenCall as CallNow};
+ghost use Rattle.caf_code.specs.Whole.{IsSettled};
 ghost use Rattle.caf_vm.specs.Calls.{CanReturn, outs_of, with_cells, with_no_lists};
 ghost use Rattle.caf_code.specs.declared.task.Wait.TheVariants as wait;
 ghost use Rattle.caf_vm.specs.Draft.{cells_after, task_in};
 
 use crate::Memory;
 use crate::draft::{CellWrite, Draft};
-use crate::settle::settle;
+use crate::settle::settle_in;
 use caf_base::{EventAt, Text};
 use caf_code::{Code, CopyOut, CopyTarget, Listed, Loop, SubCode, Wait};
 use smallvec::SmallVec;
@@ -70,9 +71,10 @@ impl Model for Task {
 impl Task {
     /// The task of the main program.
     pub fn main(alloc: Global, code: &Code) -> Result<Task, Memory>
-        ensures { IfOk result (λ task. task ≡ main_task code.now) }
+        ensures begins { IfOk result (λ task. task ≡ main_task code.now) }
+        ensures settled { IfOk result (λ task. IsSettled code.now task) }
     {
-        let address = settle(code.listing().instrs.as_slice(), 0);
+        let address = settle_in(code, 0);
         Ok(Task::with_cells(alloc, address, Vec::new(alloc), None))
     }
 
@@ -86,11 +88,11 @@ impl Task {
         done: Option<EventAt>,
     ) -> Result<Task, Memory>
         requires { IsSomeAnd (slice_get code.now.subs sub) (λ found. length args.now ≡ length found.dummies) }
-        ensures { IfOk result (λ task. (found : SubCode) → slice_get code.now.subs sub ≡ Some found → task ≡ shipped_task code.now found args.now done) }
+        ensures begins { IfOk result (λ task. (found : SubCode) → slice_get code.now.subs sub ≡ Some found → task ≡ shipped_task code.now found args.now done) }
+        ensures settled { IfOk result (λ task. IsSettled code.now task) }
     {
-        let listing = code.listing();
-        let found = &listing.subs.as_slice()[sub as usize];
-        let address = settle(listing.instrs.as_slice(), found.address as usize);
+        let found = &code.listing().subs.as_slice()[sub as usize];
+        let address = settle_in(code, found.address as usize);
         let cells = first_cells(alloc, args, found.locals)?;
         Ok(Task::with_cells(alloc, address, cells, done))
     }

@@ -1,10 +1,9 @@
 use Rattle.std.proofs.Common.{◌≡◌, ◌∙◌, List, ap, length, subst, sym}
 use Rattle.caf_base.specs.ImageMemory.{ImageMemory}
 use Rattle.caf_code.specs.Sound.{IsSoundMemory, IsSoundTask}
-use Rattle.caf_code.specs.Step.{exec, runs, settled, settled_in, unless_waiting}
+use Rattle.caf_code.specs.Step.{exec, runs, settled_in, unless_waiting}
 use Rattle.caf_code.specs.Task.{Task}
 use Rattle.caf_code.specs.Whole.{IsSettled}
-use Rattle.caf_code.specs.declared.instr.Instr.{Instr}
 use Rattle.caf_code.specs.declared.listing.Listing.{Listing}
 use Rattle.caf_vm.specs.Left.{after_of}
 use Rattle.caf_vm.proofs.Within.{all_aimed, at_rest, ended_is, has_copied}
@@ -39,8 +38,8 @@ returns-clause-runs c =
     let clear = c.args.clear in
     let same = c.listing-listing.ensures.same in
     let here = subst (λ (x : Listing). IsSettled x t) (sym same) c.requires.settled in
-    let address : c.settle-address.result ≡ settled_in code u.address =
-    c.settle-address.ensures ∙ ap (λ (is : List Instr). settled is (length is) c.address.result) c.as_slice-instrs.ensures ∙ ap (settled_in code) c.address.ensures in
+    let address : c.settle_in-address.result ≡ settled_in code u.address =
+    c.settle_in-address.ensures.settled ∙ ap (settled_in c.args.code.now) c.address-2.ensures ∙ ap (λ (x : Listing). settled_in x u.address) (sym same) in
     ap (λ (x : Task). after_of c.in_ok-effect.effect x c.step.new.memory) (c.go_on.ensures ∙ ap (λ a. record u { address = a }) address)
     ∙ ap (at_rest code) c.in_ok-effect.ensures
     ∙ ended_is code t m (exec code clear (length code.instrs) t m) here
