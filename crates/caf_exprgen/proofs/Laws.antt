@@ -1,0 +1,8 @@
+-- What holds of the instructions of every expression.
+use Rattle.caf_exprgen.specs.Words.{CodesLeaveValues}
+use Rattle.caf_exprgen.proofs.Gives.{expr_leaves}
+use Rattle.caf_exprgen.proofs.Puts.{puts_one}
+use Rattle.caf_exprgen.proofs.Within.{within}
+
+pub codes_leave : CodesLeaveValues
+codes_leave = record { leaves = expr_leaves; within = within; puts = puts_one }

@@ -1,0 +1,5 @@
+pub mod Placed
+pub mod ExprCode
+pub mod Leaves
+pub mod Straight
+pub mod Words
