@@ -1,0 +1,97 @@
+-- What a code has still to do from an address on.
+use Rattle.std.proofs.Common.{◌≡◌, ℕ, zero, suc, ◌+◌, ◌-◌, ◌<◌, ◌≤◌, true, false, List, [], ◌∷◌, ◌++◌, map, length, Option, Some, None, ℤ, refl, sym, ap, ◌∙◌, subst, arith}
+use Rattle.std.specs.Prelude.{Bool, ◌&&◌, slice_get}
+use Rattle.std.proofs.lemmas.Option.{slice_get_within}
+use Rattle.caf_program.specs.declared.stmt.LoopVariableR.{LoopVariableR}
+use Rattle.caf_program.specs.declared.stmt.LoopVariableR.TheVariants as loop_variable
+use Rattle.caf_program.specs.declared.stmt.StmtR.{StmtR}
+use Rattle.caf_source.specs.Built.{all_true}
+use Rattle.caf_source.specs.Task.{all_of}
+use Rattle.caf_source.specs.declared.todo.Todo.{Todo}
+use Rattle.caf_source.specs.declared.todo.Todo.TheVariants as item
+use Rattle.caf_code.specs.Step.{followed, go_of, settled}
+use Rattle.caf_code.specs.declared.instr.Instr.{Instr}
+use Rattle.caf_code.specs.declared.instr.Instr.TheVariants as instr
+use Rattle.caf_code.specs.declared.listing.Listing.{Listing}
+use Rattle.caf_code.specs.declared.task.Loop.{Loop}
+use Rattle.caf_exprgen.specs.Placed.{HasAt}
+use Rattle.caf_exprgen.specs.Words.{CodesLeaveValues}
+use Rattle.caf_codegen.specs.Simple.{is_block_simple, is_simple}
+use Rattle.caf_codegen.specs.StmtCode.{StandsAt, block, codes, sizes, stmt_code, texts_in, turn_code}
+use Rattle.caf_codegen.proofs.Places.{has_back, has_behind, has_front, stands_back, stands_front}
+use Rattle.caf_codegen.proofs.Sized.{sized}
+use Rattle.caf_codegen.proofs.Still.{IsStill, stmt_still}
+
+-- no `go` stands at the address
+abbrev pub IsSettledAt : Listing → ℕ → Type 0
+IsSettledAt code a = go_of (slice_get code.instrs a) ≡ None
+
+-- From this address on the code does this, with these loops open: up to the end of the program or of a shipped task.
+pub data Continues (code : Listing) : ℕ → List Todo → List Loop → Type 0 where
+  past_end : (a : ℕ) → slice_get code.instrs a ≡ Some instr.Halt → Continues code a [] []
+  at_close : (a : ℕ) (rest : List Todo) (loops : List Loop) → slice_get code.instrs a ≡ Some instr.Close → Continues code (a + 1) rest loops → Continues code a (item.Closes ∷ rest) loops
+  at_ret : (a : ℕ) → slice_get code.instrs a ≡ Some instr.Ret → Continues code a (item.Ends ∷ []) []
+  at_statement : (a k : ℕ) (s : StmtR) (rest : List Todo) (loops : List Loop) → is_simple s ≡ true → HasAt code.instrs a ((stmt_code s).code a k) → StandsAt code.texts k (stmt_code s).texts
+      → Continues code (a + (stmt_code s).size) rest loops → Continues code a (item.Does s ∷ rest) loops
+  at_turn : (a top k : ℕ) (v : LoopVariableR) (step : ℤ) (n : ℕ) (body : List StmtR) (rest : List Todo) (loops : List Loop) → is_block_simple body ≡ true
+      → HasAt code.instrs a (turn_code v top) → HasAt code.instrs top (block (codes body) top k) → StandsAt code.texts k (texts_in (codes body)) → a ≡ top + sizes (codes body)
+      → Continues code (a + 5) rest loops → Continues code a (item.Turns v step n body ∷ rest) (record { iterations = n; step = step } ∷ loops)
+  jumps : (a b : ℕ) (todo : List Todo) (loops : List Loop) → slice_get code.instrs a ≡ Some (instr.Go b) → a < b → Continues code b todo loops → Continues code a todo loops
+  goes_back : (a b : ℕ) (todo : List Todo) (loops : List Loop) → slice_get code.instrs a ≡ Some (instr.Go b) → IsSettledAt code b → Continues code b todo loops → Continues code a todo loops
+
+-- the same, and no `go` stands there
+abbrev pub Settles : Listing → ℕ → List Todo → List Loop → Type 0
+Settles code a todo loops = Continues code a todo loops × IsSettledAt code a
+
+settled_same : (instrs : List Instr) (n a : ℕ) → go_of (slice_get instrs a) ≡ None → settled instrs n a ≡ a
+settled_same instrs zero a h = refl
+settled_same instrs (suc n) a h = ap (λ o. followed o a (settled instrs n)) h
+
+turn_still : (v : LoopVariableR) (top : ℕ) → IsStill (turn_code v top)
+turn_still (loop_variable.Scalar o) top = refl
+turn_still (loop_variable.Local k) top = refl
+
+pub still_at : (code : Listing) (a : ℕ) (is : List Instr) → IsStill is → HasAt code.instrs a is → IsSettledAt code a
+still_at code a [] still has = absurd still
+still_at code a (i ∷ is) still has = ap go_of has.0 ∙ still
+
+pub first_simple : (a b : Bool) → (a && b) ≡ true → a ≡ true
+first_simple true b e = refl
+first_simple false b e = e
+
+pub rest_simple : (a b : Bool) → (a && b) ≡ true → b ≡ true
+rest_simple true b e = e
+rest_simple false b e = let h : false ≡ true = e in absurd (cc)
+
+module _ (laws : CodesLeaveValues) (code : Listing) where
+  pub stays : (a : ℕ) (todo : List Todo) (loops : List Loop) → Continues code a todo loops → IsSettledAt code a → (n : ℕ) → Settles code (settled code.instrs n a) todo loops
+  stays a todo loops c h n = subst (λ b. Settles code b todo loops) (sym (settled_same code.instrs n a h)) (c, h)
+
+  pub settle : (a : ℕ) (todo : List Todo) (loops : List Loop) → Continues code a todo loops → (n : ℕ) → length code.instrs ≤ n + a → Settles code (settled code.instrs n a) todo loops
+  settle a _ _ (past_end _ at) n le = stays a [] [] (past_end a at) (ap go_of at) n
+  settle a _ _ (at_close _ rest loops at c) n le = stays a (item.Closes ∷ rest) loops (at_close a rest loops at c) (ap go_of at) n
+  settle a _ _ (at_ret _ at) n le = stays a (item.Ends ∷ []) [] (at_ret a at) (ap go_of at) n
+  settle a _ _ (at_statement _ k s rest loops simple has texts c) n le =
+      stays a (item.Does s ∷ rest) loops (at_statement a k s rest loops simple has texts c) (still_at code a ((stmt_code s).code a k) (stmt_still laws s a k) has) n
+  settle a _ _ (at_turn _ top k v step i body rest loops simple has under texts e c) n le =
+      stays a (item.Turns v step i body ∷ rest) (record { iterations = i; step = step } ∷ loops) (at_turn a top k v step i body rest loops simple has under texts e c) (still_at code a (turn_code v top) (turn_still v top) has) n
+  settle a todo loops (jumps _ b _ _ at lt c) zero le = absurd (omega (arith, slice_get_within code.instrs a (instr.Go b) at))
+  settle a todo loops (jumps _ b _ _ at lt c) (suc n) le =
+      let e : settled code.instrs n b ≡ settled code.instrs (suc n) a = sym (ap (λ o. followed (go_of o) a (settled code.instrs n)) at) in
+      subst (λ d. Settles code d todo loops) e (settle b todo loops c n (omega arith))
+  settle a todo loops (goes_back _ b _ _ at h c) zero le = absurd (omega (arith, slice_get_within code.instrs a (instr.Go b) at))
+  settle a todo loops (goes_back _ b _ _ at h c) (suc n) le =
+      let e : b ≡ settled code.instrs (suc n) a = sym (ap (λ o. followed (go_of o) a (settled code.instrs n)) at ∙ settled_same code.instrs n b h) in
+      subst (λ d. Settles code d todo loops) e (c, h)
+
+  -- a block, and then the rest
+  pub block_continues : (l : List StmtR) (rest : List Todo) (loops : List Loop) (a b k : ℕ) → is_block_simple l ≡ true → b ≡ a + sizes (codes l) → HasAt code.instrs a (block (codes l) a k) → StandsAt code.texts k (texts_in (codes l))
+      → Continues code b rest loops → Continues code a (all_of l ++ rest) loops
+  block_continues [] rest loops a b k simple e has texts c = let e' : b ≡ a = omega arith in subst (λ n. Continues code n rest loops) e' c
+  block_continues (s ∷ l) rest loops a b k simple e has texts c =
+      let x = stmt_code s in
+      let others = block (codes l) (a + x.size) (k + length x.texts) in
+      let behind : a + x.size ≡ a + length (x.code a k) = omega (arith, sized s a k) in
+      let back = has_behind code.instrs a (a + x.size) (x.code a k) others behind has in
+      at_statement a k s (all_of l ++ rest) loops (first_simple (is_simple s) (is_block_simple l) simple) (has_front code.instrs a (x.code a k) others has) (stands_front code.texts k x.texts (texts_in (codes l)) texts)
+      (block_continues l rest loops (a + x.size) b (k + length x.texts) (rest_simple (is_simple s) (is_block_simple l) simple) (omega arith) back (stands_back code.texts k x.texts (texts_in (codes l)) texts) c)

@@ -1,0 +1,11 @@
+pub mod Places
+pub mod Sized
+pub mod Still
+pub mod Follows
+pub mod Related
+pub mod Assign
+pub mod Print
+pub mod Branch
+pub mod Loops
+pub mod Steps
+pub mod Agree

@@ -1,0 +1,85 @@
+-- A statement has as many instructions as its size says, wherever it stands.
+use Rattle.std.proofs.Common.{◌≡◌, ℕ, ◌+◌, List, [], ◌∷◌, ◌++◌, map, length, refl, sym, ap, ◌∙◌, subst, arith, length-append}
+use Rattle.caf_program.specs.declared.parts.PrintR.{PrintR}
+use Rattle.caf_program.specs.declared.parts.PrintR.TheVariants as part
+use Rattle.caf_program.specs.declared.stmt.LoopVariableR.{LoopVariableR}
+use Rattle.caf_program.specs.declared.stmt.StmtR.{StmtR}
+use Rattle.caf_program.specs.declared.stmt.StmtR.TheOpen.{StmtR-F}
+use Rattle.caf_program.specs.declared.stmt.StmtR.TheFolds.{ind-StmtR, fold-roll-StmtR, map-StmtR}
+use Rattle.caf_program.specs.declared.stmt.StmtR.TheViews.{roll-StmtR}
+use Rattle.caf_source.specs.Evaluated.{held_by_part}
+use Rattle.caf_code.specs.declared.instr.Instr.{Instr}
+use Rattle.caf_code.specs.declared.instr.Instr.TheVariants as instr
+use Rattle.caf_code.specs.declared.instr.Printed.TheVariants as printed
+use Rattle.caf_exprgen.specs.ExprCode.{expr_code}
+use Rattle.caf_codegen.specs.StmtCode.{StmtCode, assign_code, block, bounds_code, codes, do_code, if_code, parts_code, sizes, stmt_code, stmt_layer, store_of, texts_in, turn_code, while_code}
+
+abbrev IsSized : StmtCode → Type 0
+IsSized c = (a k : ℕ) → length (c.code a k) ≡ c.size
+
+abbrev Kid : Type 0
+Kid = (s : StmtR) × IsSized (stmt_code s)
+
+abbrev kids : List Kid → List StmtCode
+kids l = map stmt_code (map (λ e. e.0) l)
+
+sized_all : (l : List Kid) (a k : ℕ) → length (block (kids l) a k) ≡ sizes (kids l)
+sized_all [] a k = refl
+sized_all (e ∷ l) a k =
+    let c = stmt_code e.0 in
+    let others = block (kids l) (a + c.size) (k + length c.texts) in
+    omega (arith, length-append (c.code a k) others, e.1 a k, sized_all l (a + c.size) (k + length c.texts))
+
+sized_if : (test : List Instr) (x y : List Kid) → IsSized (if_code test (kids x) (kids y))
+sized_if test x y a k =
+    let first = a + length test + 1 in
+    let second = first + sizes (kids x) + 1 in
+    let bx = block (kids x) first k in
+    let by = block (kids y) second (k + length (texts_in (kids x))) in
+    let go = instr.Go (second + sizes (kids y)) in
+    omega (arith, length-append test (instr.Test second ∷ (bx ++ (go ∷ by))), length-append bx (go ∷ by), sized_all x first k, sized_all y second (k + length (texts_in (kids x))))
+
+sized_while : (test : List Instr) (x : List Kid) → IsSized (while_code test (kids x))
+sized_while test x a k =
+    let first = a + length test + 1 in
+    let bx = block (kids x) first k in
+    omega (arith, length-append test (instr.Test (first + sizes (kids x) + 1) ∷ (bx ++ (instr.Go a ∷ []))), length-append bx (instr.Go a ∷ []), sized_all x first k)
+
+sized_do : (v : LoopVariableR) (bounds : List Instr) (x : List Kid) → IsSized (do_code v bounds (kids x))
+sized_do v bounds x a k =
+    let top = a + length bounds + 3 in
+    let bx = block (kids x) top k in
+    let tail = turn_code v top in
+    omega (arith, length-append bounds (instr.Loop ∷ store_of v ∷ instr.Enter (top + sizes (kids x) + 5) ∷ (bx ++ tail)), length-append bx tail, sized_all x top k)
+
+-- the number of a text takes no room
+pub sized_parts : (l : List PrintR) (at k j : ℕ) → length (parts_code l at k) ≡ length (parts_code l at j)
+sized_parts [] at k j = refl
+sized_parts (part.Number e ∷ l) at k j =
+    let next = at + held_by_part (part.Number e) in
+    omega (arith, length-append (expr_code e at) (instr.Print printed.Number ∷ parts_code l next k), length-append (expr_code e at) (instr.Print printed.Number ∷ parts_code l next j), sized_parts l next k j)
+sized_parts (part.Logical e ∷ l) at k j =
+    let next = at + held_by_part (part.Logical e) in
+    omega (arith, length-append (expr_code e at) (instr.Print printed.Logical ∷ parts_code l next k), length-append (expr_code e at) (instr.Print printed.Logical ∷ parts_code l next j), sized_parts l next k j)
+sized_parts (part.Text t ∷ l) at k j = omega (arith, sized_parts l (at + held_by_part (part.Text t)) (k + 1) (j + 1))
+
+sized_layer : (y : StmtR-F Kid) → IsSized (stmt_layer (map-StmtR StmtR StmtCode stmt_code (map-StmtR Kid StmtR (λ e. e.0) y)))
+sized_layer (StmtR-F.Assign line v e) = λ a k. refl
+sized_layer (StmtR-F.Print line parts) = λ a k. sized_parts parts 0 k 0
+sized_layer (StmtR-F.If line e x y) = sized_if (expr_code e 0) x y
+sized_layer (StmtR-F.Do line v first last step x) = sized_do v (bounds_code first last step) x
+sized_layer (StmtR-F.While line e x) = sized_while (expr_code e 0) x
+sized_layer _ = λ a k. refl
+
+pub sized : (s : StmtR) (a k : ℕ) → length ((stmt_code s).code a k) ≡ (stmt_code s).size
+sized = ind-StmtR (λ s. IsSized (stmt_code s)) (λ x y is.
+    let P : StmtR-F StmtR → Type 0 = λ z. IsSized (stmt_code (roll-StmtR z)) in
+    let z : StmtR-F StmtR = map-StmtR Kid StmtR (λ e. e.0) y in
+    subst P is (subst IsSized (sym (fold-roll-StmtR StmtCode stmt_layer z)) (sized_layer y)))
+
+pub sized_block : (l : List StmtR) (a k : ℕ) → length (block (codes l) a k) ≡ sizes (codes l)
+sized_block [] a k = refl
+sized_block (s ∷ l) a k =
+    let c = stmt_code s in
+    let others = block (codes l) (a + c.size) (k + length c.texts) in
+    omega (arith, length-append (c.code a k) others, sized s a k, sized_block l (a + c.size) (k + length c.texts))

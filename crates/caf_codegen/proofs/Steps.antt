@@ -1,0 +1,106 @@
+-- A Step of any statement of which code is made.
+use Rattle.std.proofs.Common.{◌≡◌, ℕ, ◌+◌, ◌≤◌, true, false, List, [], ◌∷◌, ◌++◌, map, length, Option, Some, None, ℤ, refl, sym, ap, ◌∙◌, subst, arith}
+use Rattle.std.specs.Prelude.{Bool, ◌&&◌, nat_eq, slice_get}
+use Rattle.std.specs.List.{flat_map}
+use Rattle.std.proofs.lemmas.Bool.{eqb-true}
+use Rattle.caf_base.specs.ImageMemory.{ImageMemory}
+use Rattle.caf_program.specs.Expressions.{count_all, of_form, of_part, reads_all}
+use Rattle.caf_program.specs.Value.{Read, count}
+use Rattle.caf_program.specs.declared.expr.ExprR.{ExprR}
+use Rattle.caf_program.specs.declared.parts.PrintR.{PrintR}
+use Rattle.caf_program.specs.declared.parts.PrintR.TheVariants as part
+use Rattle.caf_program.specs.declared.parts.VariableR.TheVariants as variable
+use Rattle.caf_program.specs.declared.program.SubR.{SubR}
+use Rattle.caf_program.specs.declared.stmt.StmtR.{StmtR}
+use Rattle.caf_program.specs.declared.stmt.StmtR.TheOpen.{StmtR-F}
+use Rattle.caf_program.specs.declared.stmt.StmtR.TheFolds.{fold_out-StmtR, map-StmtR}
+use Rattle.caf_program.specs.declared.stmt.StmtR.TheViews.{out-StmtR}
+use Rattle.caf_source.specs.Built.{all_true, is_part_plain, is_plain}
+use Rattle.caf_source.specs.Step.{does, does_last, does_next}
+use Rattle.caf_source.specs.declared.todo.Todo.{Todo}
+use Rattle.caf_source.specs.declared.todo.Todo.TheVariants as item
+use Rattle.caf_code.specs.Step.{runs}
+use Rattle.caf_code.specs.declared.task.Loop.{Loop}
+use Rattle.caf_exprgen.specs.ExprCode.{expr_code}
+use Rattle.caf_exprgen.specs.Placed.{HasAt}
+use Rattle.caf_codegen.specs.Agreement.{SameStep}
+use Rattle.caf_codegen.specs.Simple.{is_block_simple, is_simple, simple_layer}
+use Rattle.caf_codegen.specs.StmtCode.{StandsAt, StmtCode, parts_code, stmt_code, stmt_layer}
+use Rattle.caf_codegen.proofs.Assign.{before, element_steps, local_steps, scalar_steps}
+use Rattle.caf_codegen.proofs.Branch.{if_steps}
+use Rattle.caf_codegen.proofs.Follows.{Continues, first_simple, rest_simple}
+use Rattle.caf_codegen.proofs.Loops.{do_steps, while_steps}
+use Rattle.caf_codegen.proofs.Print.{print_steps}
+use Rattle.caf_codegen.proofs.Related.{Around, AreCallers, Related, Setting, code_at}
+use Rattle.caf_codegen.proofs.Sized.{sized_parts}
+
+-- no read is left where as many values are held as there are
+abbrev pub NoneLeft : Type 0
+NoneLeft = (es : List ExprR) (at held : ℕ) → count_all es ≤ held → slice_get (reads_all es at) held ≡ None
+
+plain_none : (e : ExprR) → is_plain e ≡ true → count e ≡ 0
+plain_none e h = eqb-true (count e) 0 h
+
+count_append : (es fs : List ExprR) → count_all (es ++ fs) ≡ count_all es + count_all fs
+count_append [] fs = let e : count_all fs ≡ 0 + count_all fs = omega arith in e
+count_append (e ∷ es) fs = omega (arith, count_append es fs)
+
+part_none : (p : PrintR) → is_part_plain p ≡ true → count_all (of_part p) ≡ 0
+part_none (part.Number e) h = omega (arith, plain_none e h)
+part_none (part.Logical e) h = omega (arith, plain_none e h)
+part_none (part.Text t) h = refl
+
+parts_none : (l : List PrintR) → all_true (map is_part_plain l) ≡ true → count_all (flat_map of_part l) ≡ 0
+parts_none [] h = refl
+parts_none (p ∷ l) h =
+    let first = part_none p (first_simple (is_part_plain p) (all_true (map is_part_plain l)) h) in
+    let rest = parts_none l (rest_simple (is_part_plain p) (all_true (map is_part_plain l)) h) in
+    omega (arith, count_append (of_part p) (flat_map of_part l), first, rest)
+
+-- a statement of which code is made holds no value
+no_values : (l : StmtR-F StmtR) → simple_layer (map-StmtR StmtR Bool is_simple l) ≡ true → count_all (of_form l) ≡ 0
+no_values (StmtR-F.Assign line (variable.Scalar o) e) h = omega (arith, plain_none e h)
+no_values (StmtR-F.Assign line (variable.Local k) e) h = omega (arith, plain_none e h)
+no_values (StmtR-F.Assign line (variable.Element o i) e) h = omega (arith, plain_none i (first_simple (is_plain i) (is_plain e) h), plain_none e (rest_simple (is_plain i) (is_plain e) h))
+no_values (StmtR-F.Assign line (variable.Coindexed o i p) e) h = let f : false ≡ true = h in absurd (cc)
+no_values (StmtR-F.Assign line (variable.Pointed c i) e) h = let f : false ≡ true = h in absurd (cc)
+no_values (StmtR-F.Print line parts) h = parts_none parts h
+no_values (StmtR-F.If line e x y) h = omega (arith, plain_none e (first_simple (is_plain e) (is_block_simple x && is_block_simple y) h))
+no_values (StmtR-F.Do line v e1 e2 e3 x) h =
+    let bounds = first_simple (is_plain e1 && (is_plain e2 && is_plain e3)) (is_block_simple x) h in
+    let more = rest_simple (is_plain e1) (is_plain e2 && is_plain e3) bounds in
+    omega (arith, plain_none e1 (first_simple (is_plain e1) (is_plain e2 && is_plain e3) bounds), plain_none e2 (first_simple (is_plain e2) (is_plain e3) more), plain_none e3 (rest_simple (is_plain e2) (is_plain e3) more))
+no_values (StmtR-F.While line e x) h = omega (arith, plain_none e (first_simple (is_plain e) (is_block_simple x) h))
+no_values _ h = let f : false ≡ true = h in absurd (cc)
+
+module _ (g : Setting) (subs : List SubR) (w : Around) (callers : AreCallers w.below w.calls) (locals : List ℤ) (loops : List Loop) (a k : ℕ) (m : ImageMemory) (s : StmtR) (rest : List Todo) where
+  -- the last Step of a statement whose code stands here
+  abbrev Steps : StmtR-F StmtR → StmtCode → Type 0
+  Steps l c = HasAt g.code.instrs a (c.code a k) → StandsAt g.code.texts k c.texts → Continues g.code (a + c.size) rest loops
+      → SameStep g.code (Related g.code) (does_last subs g.clear l (before w locals (item.Does s) rest m)) (runs g.code g.clear (code_at w locals loops a) m)
+
+  layer_steps : (l : StmtR-F StmtR) → simple_layer (map-StmtR StmtR Bool is_simple l) ≡ true → Steps l (stmt_layer (map-StmtR StmtR StmtCode stmt_code l))
+  layer_steps (StmtR-F.Assign line (variable.Scalar o) e) h = λ has texts more. scalar_steps g w callers locals loops a m (item.Does s) rest o e has more
+  layer_steps (StmtR-F.Assign line (variable.Local n) e) h = λ has texts more. local_steps g w callers locals loops a m (item.Does s) rest n e has more
+  layer_steps (StmtR-F.Assign line (variable.Element o i) e) h = λ has texts more. element_steps g w callers locals loops a m (item.Does s) rest o i e has more
+  layer_steps (StmtR-F.Assign line (variable.Coindexed o i p) e) h = let f : false ≡ true = h in absurd (cc)
+  layer_steps (StmtR-F.Assign line (variable.Pointed c i) e) h = let f : false ≡ true = h in absurd (cc)
+  layer_steps (StmtR-F.Print line l) h = λ has texts more.
+      print_steps g w locals loops m callers a k (item.Does s) rest l texts has (subst (λ n. Continues g.code (a + n) rest loops) (sized_parts l 0 0 k) more)
+  layer_steps (StmtR-F.If line e x y) h = λ has texts more.
+      let blocks = rest_simple (is_plain e) (is_block_simple x && is_block_simple y) h in
+      if_steps g w callers locals loops a k m (item.Does s) rest e x y (first_simple (is_block_simple x) (is_block_simple y) blocks) (rest_simple (is_block_simple x) (is_block_simple y) blocks) has texts more
+  layer_steps (StmtR-F.Do line v e1 e2 e3 x) h = λ has texts more.
+      do_steps g w callers m rest (item.Does s) locals loops a k v e1 e2 e3 x (rest_simple (is_plain e1 && (is_plain e2 && is_plain e3)) (is_block_simple x) h) has texts more
+  layer_steps (StmtR-F.While line e x) h = λ has texts more. while_steps g w callers m rest (item.Does s) locals loops a k line e x h (rest_simple (is_plain e) (is_block_simple x) h) has texts more
+  layer_steps _ h = let f : false ≡ true = h in absurd (cc)
+
+  pub stmt_steps : NoneLeft → is_simple s ≡ true → HasAt g.code.instrs a ((stmt_code s).code a k) → StandsAt g.code.texts k (stmt_code s).texts → Continues g.code (a + (stmt_code s).size) rest loops
+      → SameStep g.code (Related g.code) (does subs g.clear (item.Does s) (before w locals (item.Does s) rest m)) (runs g.code g.clear (code_at w locals loops a) m)
+  stmt_steps none_left simple has texts more =
+      let l = out-StmtR s in
+      let e = fold_out-StmtR StmtCode stmt_layer s in
+      let h : simple_layer (map-StmtR StmtR Bool is_simple l) ≡ true = sym (fold_out-StmtR Bool simple_layer s) ∙ simple in
+      let last = layer_steps l h (subst (λ c. HasAt g.code.instrs a (c.code a k)) e has) (subst (λ c. StandsAt g.code.texts k c.texts) e texts) (subst (λ c. Continues g.code (a + c.size) rest loops) e more) in
+      let none : slice_get (reads_all (of_form l) 0) 0 ≡ None = none_left (of_form l) 0 0 (omega (arith, no_values l h)) in
+      subst (λ (o : Option Read). SameStep g.code (Related g.code) (does_next subs g.clear o l (before w locals (item.Does s) rest m)) (runs g.code g.clear (code_at w locals loops a) m)) (sym none) last

@@ -1,0 +1,5 @@
+pub mod Agreement
+pub mod Compiled
+pub mod Simple
+pub mod StmtCode
+pub mod ProgramCode

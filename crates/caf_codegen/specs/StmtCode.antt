@@ -1,0 +1,132 @@
+-- The instructions of statements. Addresses are absolute, so that those of a statement depend on where it stands; how
+-- many there are doesn't.
+use Rattle.std.specs.Prelude.{◌≡◌, ℕ, ◌+◌, List, [], ◌∷◌, ◌++◌, length, map, Some, slice_get}
+use Rattle.caf_program.specs.Expressions.{count_all, of_variable}
+use Rattle.caf_program.specs.Value.{count}
+use Rattle.caf_program.specs.declared.expr.ExprR.{ExprR}
+use Rattle.caf_program.specs.declared.parts.PrintR.{PrintR}
+use Rattle.caf_program.specs.declared.parts.PrintR.TheVariants as part
+use Rattle.caf_program.specs.declared.parts.VariableR.{VariableR}
+use Rattle.caf_program.specs.declared.parts.VariableR.TheVariants as variable
+use Rattle.caf_program.specs.declared.stmt.LoopVariableR.{LoopVariableR}
+use Rattle.caf_program.specs.declared.stmt.LoopVariableR.TheVariants as loop_variable
+use Rattle.caf_program.specs.declared.stmt.StmtR.{StmtR}
+use Rattle.caf_program.specs.declared.stmt.StmtR.TheOpen.{StmtR-F}
+use Rattle.caf_program.specs.declared.stmt.StmtR.TheFolds.{fold-StmtR}
+use Rattle.caf_source.specs.Evaluated.{held_by_part}
+use Rattle.caf_code.specs.declared.instr.Arithmetic.TheVariants as arithmetic
+use Rattle.caf_code.specs.declared.instr.CellUse.TheVariants as cell
+use Rattle.caf_code.specs.declared.instr.Instr.{Instr}
+use Rattle.caf_code.specs.declared.instr.Instr.TheVariants as instr
+use Rattle.caf_code.specs.declared.instr.Printed.TheVariants as printed
+use Rattle.caf_code.specs.declared.instr.Reach.TheVariants as reach
+use Rattle.caf_exprgen.specs.ExprCode.{expr_code}
+
+-- these elements stand in a list one after another, the first at this place
+abbrev pub StandsAt : {A : Type 0} → List A → ℕ → List A → Type 0
+StandsAt xs at [] = Unit {0}
+StandsAt xs at (y ∷ ys) = (slice_get xs at ≡ Some y) × StandsAt xs (at + 1) ys
+
+pub record StmtCode : Type 0 where
+  -- how many instructions there are
+  pub size : ℕ
+  -- the texts that they print, in the order of their numbers
+  pub texts : List (List ℕ)
+  -- the instructions, by the address of the first one and the number of the first text
+  pub code : ℕ → ℕ → List Instr
+
+abbrev pub sizes : List StmtCode → ℕ
+sizes [] = 0
+sizes (c ∷ rest) = c.size + sizes rest
+
+abbrev pub texts_in : List StmtCode → List (List ℕ)
+texts_in [] = []
+texts_in (c ∷ rest) = c.texts ++ texts_in rest
+
+-- statements one after another
+abbrev pub block : List StmtCode → ℕ → ℕ → List Instr
+block [] a k = []
+block (c ∷ rest) a k = c.code a k ++ block rest (a + c.size) (k + length c.texts)
+
+-- instructions that name neither an address nor a text
+abbrev pub fixed : List Instr → StmtCode
+fixed is = record { size = length is; texts = []; code = λ a k. is }
+
+-- an assignment: the left subscript, the right side, and the store with its tests
+abbrev pub assign_code : VariableR → ExprR → List Instr
+assign_code (variable.Scalar o) e = expr_code e 0 ++ (instr.Store reach.Scalar o ∷ instr.Next ∷ [])
+assign_code (variable.Local k) e = expr_code e 0 ++ (instr.Cell cell.Set k ∷ instr.Next ∷ [])
+assign_code (variable.Element o i) e = expr_code i 0 ++ (expr_code e (0 + count_all (i ∷ [])) ++ (instr.Store reach.Element o ∷ instr.Next ∷ []))
+assign_code _ e = instr.Next ∷ []
+
+-- the parts of a line, where the first value that they hold is held at a place, and the first text has a number
+abbrev pub parts_code : List PrintR → ℕ → ℕ → List Instr
+parts_code [] at k = instr.Line ∷ []
+parts_code (part.Number e ∷ rest) at k = expr_code e at ++ (instr.Print printed.Number ∷ parts_code rest (at + held_by_part (part.Number e)) k)
+parts_code (part.Logical e ∷ rest) at k = expr_code e at ++ (instr.Print printed.Logical ∷ parts_code rest (at + held_by_part (part.Logical e)) k)
+parts_code (part.Text t ∷ rest) at k = instr.Print (printed.Text k) ∷ parts_code rest (at + held_by_part (part.Text t)) (k + 1)
+
+abbrev pub part_texts : List PrintR → List (List ℕ)
+part_texts [] = []
+part_texts (part.Text t ∷ rest) = t ∷ part_texts rest
+part_texts (p ∷ rest) = part_texts rest
+
+abbrev pub print_code : List PrintR → StmtCode
+print_code parts = record { size = length (parts_code parts 0 0); texts = part_texts parts; code = λ a k. parts_code parts 0 k }
+
+-- a test that leads to the second block where it fails, and behind the first block a jump over the second
+abbrev pub if_code : List Instr → List StmtCode → List StmtCode → StmtCode
+if_code test x y = record {
+  size = length test + 1 + sizes x + 1 + sizes y;
+  texts = texts_in x ++ texts_in y;
+  code = λ a k. let first = a + length test + 1 in let second = first + sizes x + 1 in
+      test ++ (instr.Test second ∷ (block x first k ++ (instr.Go (second + sizes y) ∷ block y second (k + length (texts_in x)))));
+}
+
+-- a test that leads out where it fails, and behind the body a jump back to it
+abbrev pub while_code : List Instr → List StmtCode → StmtCode
+while_code test x = record {
+  size = length test + 1 + sizes x + 1;
+  texts = texts_in x;
+  code = λ a k. let first = a + length test + 1 in test ++ (instr.Test (first + sizes x + 1) ∷ (block x first k ++ (instr.Go a ∷ [])));
+}
+
+abbrev pub load_of : LoopVariableR → Instr
+load_of (loop_variable.Scalar o) = instr.Load reach.Scalar o
+load_of (loop_variable.Local k) = instr.Cell cell.Get k
+
+abbrev pub store_of : LoopVariableR → Instr
+store_of (loop_variable.Scalar o) = instr.Store reach.Scalar o
+store_of (loop_variable.Local k) = instr.Cell cell.Set k
+
+-- the end of an iteration, where the body begins at an address
+abbrev pub turn_code : LoopVariableR → ℕ → List Instr
+turn_code v top = load_of v ∷ instr.StepBy ∷ instr.Arithmetic arithmetic.Add ∷ store_of v ∷ instr.Again top ∷ []
+
+-- the first number, the last one and the step
+abbrev pub bounds_code : ExprR → ExprR → ExprR → List Instr
+bounds_code first last step = expr_code first 0 ++ (expr_code last (0 + count first) ++ expr_code step (0 + count first + count last))
+
+-- the bounds, the beginning of the loop, the body, and the end of an iteration
+abbrev pub do_code : LoopVariableR → List Instr → List StmtCode → StmtCode
+do_code v bounds x = record {
+  size = length bounds + 3 + sizes x + 5;
+  texts = texts_in x;
+  code = λ a k. let top = a + length bounds + 3 in bounds ++ (instr.Loop ∷ store_of v ∷ instr.Enter (top + sizes x + 5) ∷ (block x top k ++ turn_code v top));
+}
+
+-- a form of which no code is made yet stands as a lone `next`
+abbrev pub stmt_layer : StmtR-F StmtCode → StmtCode
+stmt_layer (StmtR-F.Assign line v e) = fixed (assign_code v e)
+stmt_layer (StmtR-F.Print line parts) = print_code parts
+stmt_layer (StmtR-F.If line e x y) = if_code (expr_code e 0) x y
+stmt_layer (StmtR-F.Do line v first last step x) = do_code v (bounds_code first last step) x
+stmt_layer (StmtR-F.While line e x) = while_code (expr_code e 0) x
+stmt_layer _ = fixed (instr.Next ∷ [])
+
+abbrev pub stmt_code : StmtR → StmtCode
+stmt_code = fold-StmtR StmtCode stmt_layer
+
+-- the statements of a block
+abbrev pub codes : List StmtR → List StmtCode
+codes = map stmt_code

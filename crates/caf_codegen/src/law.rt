@@ -1,0 +1,16 @@
+ghost use Rattle.std.specs.Prelude.{IsTrue};
+ghost use Rattle.caf_program.specs.declared.program.Program.{Program};
+ghost use Rattle.caf_codegen.specs.Compiled.{Compiled};
+ghost use Rattle.caf_codegen.specs.ProgramCode.{program_code};
+ghost use Rattle.caf_codegen.specs.Simple.{is_program_simple};
+
+use caf_exprgen::codes_leave_values;
+use caf_program::each_held_value_has_its_read;
+
+/// The code that is made of a program does what the program says, as far as code is made of its statements.
+pub fn made_codes_do_what_programs_say()
+    ensures { (p : Program) → IsTrue (is_program_simple p) → Compiled p (program_code p) }
+{
+    codes_leave_values();
+    each_held_value_has_its_read();
+}

@@ -1,0 +1,9 @@
+//! Code for programs.
+//!
+//! `specs/Agreement.antt` says when a task of a code does what a task over trees does, and `specs/Compiled.antt` when a
+//! code does what a program says. `specs/StmtCode.antt` and `specs/ProgramCode.antt` have the instructions.
+#![tactic(auto)]
+
+mod law;
+
+pub use law::made_codes_do_what_programs_say;
