@@ -40,12 +40,13 @@ use Rattle.caf_codegen.specs.ProgramCode.{main_code, main_size, program_code, su
 use Rattle.caf_codegen.specs.Simple.{are_subs_simple, is_block_simple, is_program_simple}
 use Rattle.caf_codegen.specs.StmtCode.{StandsAt, block, codes, sizes, texts_in}
 use Rattle.caf_codegen.proofs.Assign.{before}
-use Rattle.caf_codegen.proofs.Follows.{Continues, IsSettledAt, Settles, at_close, at_ret, at_statement, at_turn, block_continues, first_simple, goes_back, jumps, past_end, rest_simple, settle}
+use Rattle.caf_codegen.proofs.Follows.{Continues, IsSettledAt, Settles, at_close, at_ret, at_statement, at_turn, block_continues, goes_back, jumps, past_end, settle}
 use Rattle.caf_codegen.proofs.Loops.{turn_steps}
 use Rattle.caf_codegen.proofs.Places.{has_all, has_back, has_behind, has_front, stands_all, stands_back, stands_front}
 use Rattle.caf_codegen.proofs.Related.{Around, AreCallers, Related, Setting, code_at, leads_last, step_by, tree_at}
 use Rattle.caf_codegen.proofs.Sized.{sized_block}
 use Rattle.caf_codegen.proofs.Steps.{NoneLeft, stmt_steps}
+use Rattle.caf_codegen.proofs.Both.{first_true, second_true}
 
 no_go : (code : Listing) (a b : ℕ) → slice_get code.instrs a ≡ Some (instr.Go b) → IsSettledAt code a → ⊥
 no_go code a b at still = let e : Some b ≡ None = sym (ap go_of at) ∙ still in cc
@@ -142,7 +143,7 @@ record IsThere (code : Listing) (f : SubR) (s : SubCode) : Type 0 where
   locals : s.locals ≡ length f.locals
   simple : is_block_simple f.body ≡ true
 
-sub_sized : (f : SubR) (a k : ℕ) → length (sub_code f a k) ≡ sub_size f
+pub sub_sized : (f : SubR) (a k : ℕ) → length (sub_code f a k) ≡ sub_size f
 sub_sized f a k = omega (arith, length-append (block (codes f.body) a k) (instr.Ret ∷ []), sized_block f.body a k)
 
 sub_there : (code : Listing) (subs : List SubR) (a k at : ℕ) (f : SubR) (s : SubCode) → are_subs_simple subs ≡ true → HasAt code.instrs a (subs_code subs a k) → StandsAt code.texts k (subs_texts subs)
@@ -158,10 +159,10 @@ sub_there code (x ∷ subs) a k zero f s simple has texts e h =
       instrs = has_front code.instrs a (sub_code x a k) _ has;
       texts = stands_front code.texts k (texts_in (codes x.body)) (subs_texts subs) texts;
       locals = refl;
-      simple = first_simple (is_block_simple x.body) (are_subs_simple subs) simple;
+      simple = first_true (is_block_simple x.body) (are_subs_simple subs) simple;
     }))
 sub_there code (x ∷ subs) a k (suc at) f s simple has texts e h =
-    sub_there code subs (a + sub_size x) (k + length (texts_in (codes x.body))) at f s (rest_simple (is_block_simple x.body) (are_subs_simple subs) simple)
+    sub_there code subs (a + sub_size x) (k + length (texts_in (codes x.body))) at f s (second_true (is_block_simple x.body) (are_subs_simple subs) simple)
     (has_behind code.instrs a (a + sub_size x) (sub_code x a k) _ (omega (arith, sub_sized x a k)) has) (stands_back code.texts k (texts_in (codes x.body)) (subs_texts subs) texts) e h
 
 same_dummies : (subs : List SubR) (a : ℕ) → map (λ (s : SubCode). s.dummies) (sub_entries subs a) ≡ map copied_dummies subs
@@ -182,7 +183,7 @@ compiled laws none_left p simple =
     let q = sizes (codes body) in
     let ends = has_behind code.instrs 0 q statements (instr.Close ∷ instr.Halt ∷ []) (omega (arith, sized_block body 0 0)) has_main in
     let there : Continues code 0 (all_of body ++ (item.Closes ∷ [])) [] =
-    block_continues laws code body (item.Closes ∷ []) [] 0 q 0 (first_simple (is_block_simple body) (are_subs_simple p.subs) simple) (omega arith) (has_front code.instrs 0 statements _ has_main)
+    block_continues laws code body (item.Closes ∷ []) [] 0 q 0 (first_true (is_block_simple body) (are_subs_simple p.subs) simple) (omega arith) (has_front code.instrs 0 statements _ has_main)
     (stands_front code.texts 0 texts (subs_texts p.subs) (stands_all (texts ++ subs_texts p.subs) [])) (at_close q [] [] ends.0 (past_end (q + 1) ends.1.0)) in
     let main_sized : n ≡ 0 + length main = omega (arith, length-append statements (instr.Close ∷ instr.Halt ∷ []), sized_block body 0 0) in
     let has_subs = has_behind code.instrs 0 n main subs main_sized has in
@@ -192,7 +193,7 @@ compiled laws none_left p simple =
       subs = same_dummies p.subs n;
       main = λ k. begins laws none_left p code k [] (all_of body ++ (item.Closes ∷ [])) None 0 there;
       shipped = λ k at f s arguments event e h len.
-          let x = sub_there code p.subs n (length texts) at f s (rest_simple (is_block_simple body) (are_subs_simple p.subs) simple) has_subs subs_stand e h in
+          let x = sub_there code p.subs n (length texts) at f s (second_true (is_block_simple body) (are_subs_simple p.subs) simple) has_subs subs_stand e h in
           let statements = block (codes f.body) s.address x.first_text in
           let q = s.address + sizes (codes f.body) in
           let ret = has_behind code.instrs s.address q statements (instr.Ret ∷ []) (omega (arith, sized_block f.body s.address x.first_text)) x.instrs in

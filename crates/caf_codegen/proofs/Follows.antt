@@ -21,6 +21,7 @@ use Rattle.caf_codegen.specs.StmtCode.{StandsAt, block, codes, sizes, stmt_code,
 use Rattle.caf_codegen.proofs.Places.{has_back, has_behind, has_front, stands_back, stands_front}
 use Rattle.caf_codegen.proofs.Sized.{sized}
 use Rattle.caf_codegen.proofs.Still.{IsStill, stmt_still}
+use Rattle.caf_codegen.proofs.Both.{first_true, second_true}
 
 -- no `go` stands at the address
 abbrev pub IsSettledAt : Listing → ℕ → Type 0
@@ -55,14 +56,6 @@ pub still_at : (code : Listing) (a : ℕ) (is : List Instr) → IsStill is → H
 still_at code a [] still has = absurd still
 still_at code a (i ∷ is) still has = ap go_of has.0 ∙ still
 
-pub first_simple : (a b : Bool) → (a && b) ≡ true → a ≡ true
-first_simple true b e = refl
-first_simple false b e = e
-
-pub rest_simple : (a b : Bool) → (a && b) ≡ true → b ≡ true
-rest_simple true b e = e
-rest_simple false b e = let h : false ≡ true = e in absurd (cc)
-
 module _ (laws : CodesLeaveValues) (code : Listing) where
   pub stays : (a : ℕ) (todo : List Todo) (loops : List Loop) → Continues code a todo loops → IsSettledAt code a → (n : ℕ) → Settles code (settled code.instrs n a) todo loops
   stays a todo loops c h n = subst (λ b. Settles code b todo loops) (sym (settled_same code.instrs n a h)) (c, h)
@@ -93,5 +86,5 @@ module _ (laws : CodesLeaveValues) (code : Listing) where
       let others = block (codes l) (a + x.size) (k + length x.texts) in
       let behind : a + x.size ≡ a + length (x.code a k) = omega (arith, sized s a k) in
       let back = has_behind code.instrs a (a + x.size) (x.code a k) others behind has in
-      at_statement a k s (all_of l ++ rest) loops (first_simple (is_simple s) (is_block_simple l) simple) (has_front code.instrs a (x.code a k) others has) (stands_front code.texts k x.texts (texts_in (codes l)) texts)
-      (block_continues l rest loops (a + x.size) b (k + length x.texts) (rest_simple (is_simple s) (is_block_simple l) simple) (omega arith) back (stands_back code.texts k x.texts (texts_in (codes l)) texts) c)
+      at_statement a k s (all_of l ++ rest) loops (first_true (is_simple s) (is_block_simple l) simple) (has_front code.instrs a (x.code a k) others has) (stands_front code.texts k x.texts (texts_in (codes l)) texts)
+      (block_continues l rest loops (a + x.size) b (k + length x.texts) (second_true (is_simple s) (is_block_simple l) simple) (omega arith) back (stands_back code.texts k x.texts (texts_in (codes l)) texts) c)

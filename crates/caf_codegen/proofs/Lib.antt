@@ -1,3 +1,4 @@
+pub mod Both
 pub mod Places
 pub mod Sized
 pub mod Still
@@ -9,3 +10,6 @@ pub mod Branch
 pub mod Loops
 pub mod Steps
 pub mod Agree
+pub mod Runs
+pub mod Valid
+pub mod Whole

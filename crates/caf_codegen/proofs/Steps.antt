@@ -28,17 +28,18 @@ use Rattle.caf_codegen.specs.Simple.{is_block_simple, is_simple, simple_layer}
 use Rattle.caf_codegen.specs.StmtCode.{StandsAt, StmtCode, parts_code, stmt_code, stmt_layer}
 use Rattle.caf_codegen.proofs.Assign.{before, element_steps, local_steps, scalar_steps}
 use Rattle.caf_codegen.proofs.Branch.{if_steps}
-use Rattle.caf_codegen.proofs.Follows.{Continues, first_simple, rest_simple}
+use Rattle.caf_codegen.proofs.Follows.{Continues}
 use Rattle.caf_codegen.proofs.Loops.{do_steps, while_steps}
 use Rattle.caf_codegen.proofs.Print.{print_steps}
 use Rattle.caf_codegen.proofs.Related.{Around, AreCallers, Related, Setting, code_at}
 use Rattle.caf_codegen.proofs.Sized.{sized_parts}
+use Rattle.caf_codegen.proofs.Both.{first_true, second_true}
 
 -- no read is left where as many values are held as there are
 abbrev pub NoneLeft : Type 0
 NoneLeft = (es : List ExprR) (at held : ℕ) → count_all es ≤ held → slice_get (reads_all es at) held ≡ None
 
-plain_none : (e : ExprR) → is_plain e ≡ true → count e ≡ 0
+pub plain_none : (e : ExprR) → is_plain e ≡ true → count e ≡ 0
 plain_none e h = eqb-true (count e) 0 h
 
 count_append : (es fs : List ExprR) → count_all (es ++ fs) ≡ count_all es + count_all fs
@@ -53,24 +54,24 @@ part_none (part.Text t) h = refl
 parts_none : (l : List PrintR) → all_true (map is_part_plain l) ≡ true → count_all (flat_map of_part l) ≡ 0
 parts_none [] h = refl
 parts_none (p ∷ l) h =
-    let first = part_none p (first_simple (is_part_plain p) (all_true (map is_part_plain l)) h) in
-    let rest = parts_none l (rest_simple (is_part_plain p) (all_true (map is_part_plain l)) h) in
+    let first = part_none p (first_true (is_part_plain p) (all_true (map is_part_plain l)) h) in
+    let rest = parts_none l (second_true (is_part_plain p) (all_true (map is_part_plain l)) h) in
     omega (arith, count_append (of_part p) (flat_map of_part l), first, rest)
 
 -- a statement of which code is made holds no value
 no_values : (l : StmtR-F StmtR) → simple_layer (map-StmtR StmtR Bool is_simple l) ≡ true → count_all (of_form l) ≡ 0
 no_values (StmtR-F.Assign line (variable.Scalar o) e) h = omega (arith, plain_none e h)
 no_values (StmtR-F.Assign line (variable.Local k) e) h = omega (arith, plain_none e h)
-no_values (StmtR-F.Assign line (variable.Element o i) e) h = omega (arith, plain_none i (first_simple (is_plain i) (is_plain e) h), plain_none e (rest_simple (is_plain i) (is_plain e) h))
+no_values (StmtR-F.Assign line (variable.Element o i) e) h = omega (arith, plain_none i (first_true (is_plain i) (is_plain e) h), plain_none e (second_true (is_plain i) (is_plain e) h))
 no_values (StmtR-F.Assign line (variable.Coindexed o i p) e) h = let f : false ≡ true = h in absurd (cc)
 no_values (StmtR-F.Assign line (variable.Pointed c i) e) h = let f : false ≡ true = h in absurd (cc)
 no_values (StmtR-F.Print line parts) h = parts_none parts h
-no_values (StmtR-F.If line e x y) h = omega (arith, plain_none e (first_simple (is_plain e) (is_block_simple x && is_block_simple y) h))
+no_values (StmtR-F.If line e x y) h = omega (arith, plain_none e (first_true (is_plain e) (is_block_simple x && is_block_simple y) h))
 no_values (StmtR-F.Do line v e1 e2 e3 x) h =
-    let bounds = first_simple (is_plain e1 && (is_plain e2 && is_plain e3)) (is_block_simple x) h in
-    let more = rest_simple (is_plain e1) (is_plain e2 && is_plain e3) bounds in
-    omega (arith, plain_none e1 (first_simple (is_plain e1) (is_plain e2 && is_plain e3) bounds), plain_none e2 (first_simple (is_plain e2) (is_plain e3) more), plain_none e3 (rest_simple (is_plain e2) (is_plain e3) more))
-no_values (StmtR-F.While line e x) h = omega (arith, plain_none e (first_simple (is_plain e) (is_block_simple x) h))
+    let bounds = first_true (is_plain e1 && (is_plain e2 && is_plain e3)) (is_block_simple x) h in
+    let more = second_true (is_plain e1) (is_plain e2 && is_plain e3) bounds in
+    omega (arith, plain_none e1 (first_true (is_plain e1) (is_plain e2 && is_plain e3) bounds), plain_none e2 (first_true (is_plain e2) (is_plain e3) more), plain_none e3 (second_true (is_plain e2) (is_plain e3) more))
+no_values (StmtR-F.While line e x) h = omega (arith, plain_none e (first_true (is_plain e) (is_block_simple x) h))
 no_values _ h = let f : false ≡ true = h in absurd (cc)
 
 module _ (g : Setting) (subs : List SubR) (w : Around) (callers : AreCallers w.below w.calls) (locals : List ℤ) (loops : List Loop) (a k : ℕ) (m : ImageMemory) (s : StmtR) (rest : List Todo) where
@@ -88,11 +89,11 @@ module _ (g : Setting) (subs : List SubR) (w : Around) (callers : AreCallers w.b
   layer_steps (StmtR-F.Print line l) h = λ has texts more.
       print_steps g w locals loops m callers a k (item.Does s) rest l texts has (subst (λ n. Continues g.code (a + n) rest loops) (sized_parts l 0 0 k) more)
   layer_steps (StmtR-F.If line e x y) h = λ has texts more.
-      let blocks = rest_simple (is_plain e) (is_block_simple x && is_block_simple y) h in
-      if_steps g w callers locals loops a k m (item.Does s) rest e x y (first_simple (is_block_simple x) (is_block_simple y) blocks) (rest_simple (is_block_simple x) (is_block_simple y) blocks) has texts more
+      let blocks = second_true (is_plain e) (is_block_simple x && is_block_simple y) h in
+      if_steps g w callers locals loops a k m (item.Does s) rest e x y (first_true (is_block_simple x) (is_block_simple y) blocks) (second_true (is_block_simple x) (is_block_simple y) blocks) has texts more
   layer_steps (StmtR-F.Do line v e1 e2 e3 x) h = λ has texts more.
-      do_steps g w callers m rest (item.Does s) locals loops a k v e1 e2 e3 x (rest_simple (is_plain e1 && (is_plain e2 && is_plain e3)) (is_block_simple x) h) has texts more
-  layer_steps (StmtR-F.While line e x) h = λ has texts more. while_steps g w callers m rest (item.Does s) locals loops a k line e x h (rest_simple (is_plain e) (is_block_simple x) h) has texts more
+      do_steps g w callers m rest (item.Does s) locals loops a k v e1 e2 e3 x (second_true (is_plain e1 && (is_plain e2 && is_plain e3)) (is_block_simple x) h) has texts more
+  layer_steps (StmtR-F.While line e x) h = λ has texts more. while_steps g w callers m rest (item.Does s) locals loops a k line e x h (second_true (is_plain e) (is_block_simple x) h) has texts more
   layer_steps _ h = let f : false ≡ true = h in absurd (cc)
 
   pub stmt_steps : NoneLeft → is_simple s ≡ true → HasAt g.code.instrs a ((stmt_code s).code a k) → StandsAt g.code.texts k (stmt_code s).texts → Continues g.code (a + (stmt_code s).size) rest loops

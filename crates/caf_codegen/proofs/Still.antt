@@ -16,6 +16,7 @@ use Rattle.caf_exprgen.specs.ExprCode.{expr_code}
 use Rattle.caf_exprgen.specs.Straight.{all_inner, is_inner, is_within_step}
 use Rattle.caf_exprgen.specs.Words.{CodesLeaveValues}
 use Rattle.caf_codegen.specs.StmtCode.{StmtCode, bounds_code, parts_code, stmt_code, stmt_layer}
+use Rattle.caf_codegen.proofs.Both.{first_true}
 
 abbrev pub IsStill : List Instr → Type 0
 IsStill [] = ⊥
@@ -29,13 +30,9 @@ inner_still : (i : Instr) → is_inner i ≡ true → go_of (Some i) ≡ None
 inner_still (instr.Go a) e = let h : false ≡ true = e in absurd (cc)
 inner_still _ e = refl
 
-first_of : (a b : Bool) → (a && b) ≡ true → a ≡ true
-first_of true b e = refl
-first_of false b e = e
-
 within_still : (is : List Instr) → is_within_step is ≡ true → IsStill is
 within_still [] e = let h : false ≡ true = e in absurd (cc)
-within_still (i ∷ is) e = inner_still i (first_of (is_inner i) (all_inner is) e)
+within_still (i ∷ is) e = inner_still i (first_true (is_inner i) (all_inner is) e)
 
 module _ (laws : CodesLeaveValues) where
   pub expr_still : (e : ExprR) (at : ℕ) → IsStill (expr_code e at)
