@@ -24,19 +24,19 @@ use Rattle.caf_source.specs.Built.{all_true, are_subs_built, built_layer, is_bui
 use Rattle.caf_source.specs.declared.choice.Choice.{Choice}
 use Rattle.caf_source.specs.declared.choice.Choice.TheVariants as choice
 use Rattle.caf_source.specs.declared.state.Image.{Image}
-use Rattle.caf_source.specs.declared.task.Frame.{Frame}
-use Rattle.caf_source.specs.declared.task.Task.{Task}
-use Rattle.caf_source.specs.declared.todo.CopyOut.{CopyOut}
-use Rattle.caf_source.specs.declared.todo.Todo.{Todo}
-use Rattle.caf_source.specs.declared.todo.Todo.TheVariants as item
+use Rattle.caf_treestep.specs.declared.task.Frame.{Frame}
+use Rattle.caf_treestep.specs.declared.task.Task.{Task}
+use Rattle.caf_treestep.specs.declared.todo.CopyOut.{CopyOut}
+use Rattle.caf_treestep.specs.declared.todo.Todo.{Todo}
+use Rattle.caf_treestep.specs.declared.todo.Todo.TheVariants as item
 use Rattle.caf_source.specs.Next.{leave_finish, leave_in, next, past_end, running_in, standing, step_in, with_image}
 use Rattle.caf_source.specs.Plain.{IsPlain, IsPlainImage, IsPlainTask, all_clear, can_step_in, image_by, is_plain_effect, is_still, is_todo_built, main_step}
 use Rattle.caf_source.specs.Ending.{ending_of}
 use Rattle.caf_source.specs.Run.{IsStuck, Stands, has_trapped, is_done}
 use Rattle.caf_source.specs.State.{State}
-use Rattle.caf_source.specs.Step.{At, assigned, assigns, called, does, does_first, does_last, does_next, given, goes_in, goes_on, kept, loop_begun, printed, ran, returns_to, seen, step, turn_taken, turns, unless_waiting, variables}
+use Rattle.caf_treestep.specs.Step.{At, assigned, assigns, called, does, does_first, does_last, does_next, given, goes_in, goes_on, kept, loop_begun, printed, ran, returns_to, seen, step, turn_taken, turns, unless_waiting, variables}
 use Rattle.caf_source.specs.Stepping.{can_leave_in, may_leave_end, placed}
-use Rattle.caf_source.specs.Task.{all_of}
+use Rattle.caf_treestep.specs.Task.{all_of}
 use Rattle.caf_source.proofs.Last.{PastReads, holds_nothing}
 use Rattle.caf_source.proofs.Both.{and_first}
 use Rattle.caf_source.proofs.Plain.{step_plain}

@@ -1,7 +1,7 @@
 -- A statement of a form that runs so far reads nothing, so that its next Step is its last.
 use Rattle.std.proofs.lemmas.Bool.{eqb-true, false≢true}
 use Rattle.std.specs.List.{flat_map}
-use Rattle.std.proofs.Common.{◌≡◌, ℕ, ◌≤◌, List, ◌∷◌, Bool, Option, None, slice_get, length, Result, IfOk, IsTrue, map, ◌&&◌, arith, refl, sym, ap, subst, ◌∙◌, []}
+use Rattle.std.proofs.Common.{◌≡◌, ℕ, ◌+◌, ◌++◌, ◌≤◌, List, ◌∷◌, Bool, Option, None, slice_get, length, Result, IfOk, IsTrue, map, ◌&&◌, arith, refl, sym, ap, subst, ◌∙◌, []}
 use Rattle.caf_base.specs.declared.effect.Effect.{Effect}
 use Rattle.caf_base.specs.declared.fence.FenceClear.{FenceClear}
 use Rattle.caf_base.specs.declared.memory.Memory.{Memory}
@@ -21,13 +21,17 @@ use Rattle.caf_program.specs.declared.stmt.StmtR.TheViews.{out-StmtR, roll-StmtR
 use Rattle.caf_program.specs.Expressions.{count_all, of_actual, of_form, of_part, of_variable, reads_all}
 use Rattle.caf_program.specs.Value.{count}
 use Rattle.caf_source.specs.Built.{all_true, built_layer, is_actual_plain, is_built, is_here, is_part_plain, is_plain}
-use Rattle.caf_source.specs.declared.task.Task.{Task}
-use Rattle.caf_source.specs.declared.todo.Todo.{Todo}
-use Rattle.caf_source.specs.declared.todo.Todo.TheVariants as item
-use Rattle.caf_source.specs.Step.{does, does_first, does_last, does_next, standing, step, unless_waiting}
-use Rattle.caf_source.specs.Stood.{Leaves}
+use Rattle.caf_treestep.specs.declared.task.Task.{Task}
+use Rattle.caf_treestep.specs.declared.todo.Todo.{Todo}
+use Rattle.caf_treestep.specs.declared.todo.Todo.TheVariants as item
+use Rattle.caf_treestep.specs.Step.{does, does_first, does_last, does_next, standing, step, unless_waiting}
+use Rattle.caf_treestep.specs.Stood.{Leaves}
 use Rattle.caf_source.proofs.Both.{and_first, and_second}
-use Rattle.caf_source.proofs.Found.{count_both}
+
+-- what two lists of expressions hold
+count_both : (es fs : List ExprR) → count_all (es ++ fs) ≡ count_all es + count_all fs
+count_both [] fs = omega arith
+count_both (e ∷ es) fs = omega (arith, count_both es fs)
 
 -- the expressions of a statement, whatever stands in its blocks
 same_expressions : {A : Type 0} (f : StmtR → A) (s : StmtR-F StmtR) → of_form (map-StmtR StmtR A f s) ≡ of_form s
@@ -102,22 +106,3 @@ holds_nothing s n built =
 
 abbrev pub PastReads : Type 0
 PastReads = (es : List ExprR) (at held : ℕ) → count_all es ≤ held → slice_get (reads_all es at) held ≡ None
-
-pub last_of : (subs : List SubR) (clear : FenceClear) (s : StmtR) (f : StmtR-F StmtR) (t : Task) (m : ImageMemory) (r : Result Effect Memory) (u : Task) (n : ImageMemory) → s ≡ roll-StmtR f → out-StmtR s ≡ f → IsTrue (is_built s) → PastReads → IfOk r (λ e. Leaves e (does_last subs clear f (standing (item.Does (roll-StmtR f)) t m)) u n) → IfOk r (λ e. Leaves e (does subs clear (item.Does s) (standing (item.Does s) t m)) u n)
-last_of subs clear s f t m r u n rolled opened built past last =
-    let none : slice_get (reads_all (of_form (out-StmtR s)) 0) (length t.held) ≡ None = past (of_form (out-StmtR s)) 0 (length t.held) (holds_nothing s (length t.held) built) in
-    let P : Option _ → Type 0 = λ x. IfOk r (λ e. Leaves e (does_next subs clear x (out-StmtR s) (standing (item.Does s) t m)) u n) in
-    subst P (sym none)
-    (subst (λ g. IfOk r (λ e. Leaves e (does_last subs clear g (standing (item.Does s) t m)) u n)) (sym opened)
-    (subst (λ x. IfOk r (λ e. Leaves e (does_last subs clear f (standing (item.Does x) t m)) u n)) (sym rolled) last))
-
--- the Step of a task that waits for nothing is that of what is next on its list
-pub step_is : (subs : List SubR) (clear : FenceClear) (t : Task) (m : ImageMemory) (next : Todo) (rest : List Todo) → t.wait ≡ None → t.frame.todo ≡ next ∷ rest → step subs clear t m ≡ does subs clear next (standing next (record t { frame = record t.frame { todo = rest } }) m)
-step_is subs clear t m next rest waits todo =
-    ap (λ w. unless_waiting w subs clear t m) waits
-    ∙ ap (λ l. does_first l subs clear t m) todo
-    ∙ ap (λ l. does subs clear next (record { task = record t { frame = record t.frame { todo = l } }; memory = m; rest = rest })) todo
-
--- what a statement of such a form holds, by its form
-pub form_holds_nothing : (s : StmtR) (f : StmtR-F StmtR) (n : ℕ) → out-StmtR s ≡ f → IsTrue (is_built s) → count_all (of_form f) ≤ n
-form_holds_nothing s f n opened built = subst (λ g. count_all (of_form g) ≤ n) opened (holds_nothing s n built)

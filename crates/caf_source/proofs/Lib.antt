@@ -1,5 +1,4 @@
 mod Both
-mod Found
 mod Last
 mod Plain
 mod Steps

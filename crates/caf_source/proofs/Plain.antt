@@ -20,16 +20,16 @@ use Rattle.caf_program.specs.declared.stmt.StmtR.TheViews.{out-StmtR, roll-StmtR
 use Rattle.caf_program.specs.Expressions.{of_form, reads_all}
 use Rattle.caf_program.specs.Value.{Read, value_at}
 use Rattle.caf_source.specs.Built.{all_true, are_subs_built, built_layer, is_block_built, is_built, is_here, is_plain}
-use Rattle.caf_source.specs.declared.argument.Argument.{Argument}
-use Rattle.caf_source.specs.declared.task.Frame.{Frame}
-use Rattle.caf_source.specs.declared.task.Task.{Task}
-use Rattle.caf_source.specs.declared.todo.CopyOut.{CopyOut}
-use Rattle.caf_source.specs.declared.todo.Todo.{Todo}
-use Rattle.caf_source.specs.declared.todo.Todo.TheVariants as item
-use Rattle.caf_source.specs.Evaluated.{arguments_of, outs_from}
+use Rattle.caf_treestep.specs.declared.argument.Argument.{Argument}
+use Rattle.caf_treestep.specs.declared.task.Frame.{Frame}
+use Rattle.caf_treestep.specs.declared.task.Task.{Task}
+use Rattle.caf_treestep.specs.declared.todo.CopyOut.{CopyOut}
+use Rattle.caf_treestep.specs.declared.todo.Todo.{Todo}
+use Rattle.caf_treestep.specs.declared.todo.Todo.TheVariants as item
+use Rattle.caf_treestep.specs.Evaluated.{arguments_of, outs_from}
 use Rattle.caf_source.specs.Plain.{IsPlainTask, StaysPlain, is_frame_built, is_todo_built}
-use Rattle.caf_source.specs.Step.{At, Variables, assigned, assigns, called, does, does_first, does_last, does_next, frame_of, given, goes_in, goes_on, kept, loop_begun, opened, printed, ran, returns_to, seen, step, turn_taken, turns, unless_waiting, variables, with_todo}
-use Rattle.caf_source.specs.Task.{all_of}
+use Rattle.caf_treestep.specs.Step.{At, Variables, assigned, assigns, called, does, does_first, does_last, does_next, frame_of, given, goes_in, goes_on, kept, loop_begun, opened, printed, ran, returns_to, seen, step, turn_taken, turns, unless_waiting, variables, with_todo}
+use Rattle.caf_treestep.specs.Task.{all_of}
 use Rattle.caf_source.proofs.Both.{and_first, and_second}
 use Rattle.caf_source.proofs.Last.{PastReads, holds_nothing}
 

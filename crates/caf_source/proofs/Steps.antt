@@ -1,6 +1,7 @@
 -- Choices in the states in which the forms that run so far stand.
 use Rattle.std.proofs.lemmas.Bool.{false≢true}
 use Rattle.std.proofs.lemmas.Option.{none-some}
+use Rattle.std.specs.List.{list_all}
 use Rattle.std.proofs.Common.{◌≡◌, ℕ, zero, suc, List, [], ◌∷◌, true, Option, Some, None, Result, Ok, Err, IfOk, IsTrue, refl, sym, ap, subst, ◌∙◌, nat_eq, get_or, is_some, slice_get, slice_set, find, if◌then◌else◌, map}
 use Rattle.caf_base.specs.declared.effect.Effect.{Effect}
 use Rattle.caf_base.specs.declared.effect.Effect.TheVariants as effect
@@ -10,6 +11,8 @@ use Rattle.caf_base.specs.declared.team.FinishRef.{FinishRef}
 use Rattle.caf_base.specs.declared.trap.Trap.{Trap}
 use Rattle.caf_base.specs.Operations.{same_op}
 use Rattle.caf_base.specs.Start.{start_memory}
+use Rattle.caf_base.specs.declared.object.Object.{Object}
+use Rattle.caf_program.specs.Accepted.{IsAccepted, is_declared}
 use Rattle.caf_program.specs.declared.program.Program.{Program}
 use Rattle.caf_program.specs.declared.program.SubR.{SubR}
 use Rattle.caf_source.specs.declared.state.Image.{Image}
@@ -17,13 +20,14 @@ use Rattle.caf_source.specs.declared.state.Live.{Live}
 use Rattle.caf_source.specs.declared.state.Operation.{Operation}
 use Rattle.caf_source.specs.declared.stepped.Stepped.{Stepped}
 use Rattle.caf_source.specs.declared.stepped.Stepped.TheVariants as stepped
-use Rattle.caf_source.specs.declared.todo.Todo.{Todo}
-use Rattle.caf_source.specs.declared.todo.Todo.TheVariants as item
+use Rattle.caf_treestep.specs.declared.todo.Todo.{Todo}
+use Rattle.caf_treestep.specs.declared.todo.Todo.TheVariants as item
 use Rattle.caf_source.specs.Built.{all_true, is_block_built, is_program_built}
 use Rattle.caf_source.specs.Next.{by_effect, clear_of, part_in, part_waiting, past_end, replaced, running_in, step_in, step_live, touch_op, untrapped, with_image, with_live}
 use Rattle.caf_source.specs.Plain.{IsPlain, IsPlainImage, all_clear, image_by, is_plain_effect, is_todo_built, main_step, stepped_image}
 use Rattle.caf_source.specs.State.{State, first, start_image}
-use Rattle.caf_source.specs.Step.{step, without_first}
+use Rattle.caf_treestep.specs.Placeable.{IsPlaceable}
+use Rattle.caf_treestep.specs.Step.{step, without_first}
 use Rattle.caf_source.specs.Stepping.{Makes, placed}
 use Rattle.caf_source.proofs.Both.{and_first, and_second}
 use Rattle.caf_source.proofs.Plain.{front_built}
@@ -114,17 +118,23 @@ rest_built (x ∷ rest) built = and_second (is_todo_built x) _ built
 
 pub left_plain : (im : Image) (f : FinishRef) → IsPlainImage im → IsPlainImage (past_end im f)
 left_plain im f plain = record {
+  memory = plain.memory;
   number = plain.number;
   main = record { frame = rest_built im.main.task.frame.todo plain.main.frame; below = plain.main.below; held = plain.main.held; wait = plain.main.wait };
   shipped = plain.shipped;
 }
 
+-- each index that a memory names fits as a run begins
+abbrev pub BeginsPlaceable : Type 0
+BeginsPlaceable = (objects : List Object) (images image : ℕ) → IsTrue (list_all is_declared objects) → IsPlaceable (start_memory objects images image)
+
 -- the state in which a run begins
-pub begins_plain : (p : Program) → IsTrue (is_program_built p) → IsPlain (first p 1)
-begins_plain p built = record {
+pub begins_plain : (p : Program) → BeginsPlaceable → IsAccepted p → IsTrue (is_program_built p) → IsPlain (first p 1)
+begins_plain p begins accepted built = record {
   image = start_image p (start_memory p.objects 1 0);
   one = refl;
   plain = record {
+    memory = begins p.objects 1 0 accepted.kinds.declared;
     number = refl;
     main = record { frame = front_built p.body (item.Closes ∷ []) (and_first (is_block_built p.body) _ built) refl; below = refl; held = refl; wait = refl };
     shipped = refl;

@@ -1,10 +1,4 @@
-pub mod Finds
-pub mod Task
-pub mod Evaluated
-pub mod Step
 pub mod Plain
-pub mod Stood
-pub mod Variables
 pub mod State
 pub mod Next
 pub mod Run

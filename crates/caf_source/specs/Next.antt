@@ -33,12 +33,12 @@ use Rattle.caf_source.specs.declared.state.Arrival.{Arrival}
 use Rattle.caf_source.specs.declared.state.Image.{Image}
 use Rattle.caf_source.specs.declared.state.Live.{Live}
 use Rattle.caf_source.specs.declared.state.Operation.{Operation}
-use Rattle.caf_source.specs.declared.task.Task.{Task}
-use Rattle.caf_source.specs.declared.task.Wait.{Wait}
-use Rattle.caf_source.specs.declared.task.Wait.TheVariants as awaited
-use Rattle.caf_source.specs.declared.todo.Todo.{Todo}
-use Rattle.caf_source.specs.declared.todo.Todo.TheVariants as item
-use Rattle.caf_source.specs.Step.{step, answered, parted_task, past_finish, shipped_task, without_first}
+use Rattle.caf_treestep.specs.declared.task.Task.{Task}
+use Rattle.caf_treestep.specs.declared.task.Wait.{Wait}
+use Rattle.caf_treestep.specs.declared.task.Wait.TheVariants as awaited
+use Rattle.caf_treestep.specs.declared.todo.Todo.{Todo}
+use Rattle.caf_treestep.specs.declared.todo.Todo.TheVariants as item
+use Rattle.caf_treestep.specs.Step.{step, answered, parted_task, past_finish, shipped_task, without_first}
 use Rattle.caf_source.specs.State.{State, place_of}
 
 abbrev pub with_image : State → ℕ → Image → State

@@ -7,13 +7,14 @@ use Rattle.caf_base.specs.declared.effect.Effect.{Effect}
 use Rattle.caf_base.specs.declared.effect.Effect.TheVariants as effect
 use Rattle.caf_program.specs.declared.program.SubR.{SubR}
 use Rattle.caf_source.specs.declared.state.Image.{Image}
-use Rattle.caf_source.specs.declared.task.Frame.{Frame}
-use Rattle.caf_source.specs.declared.task.Task.{Task}
-use Rattle.caf_source.specs.declared.todo.Todo.{Todo}
-use Rattle.caf_source.specs.declared.todo.Todo.TheVariants as item
+use Rattle.caf_treestep.specs.declared.task.Frame.{Frame}
+use Rattle.caf_treestep.specs.declared.task.Task.{Task}
+use Rattle.caf_treestep.specs.declared.todo.Todo.{Todo}
+use Rattle.caf_treestep.specs.declared.todo.Todo.TheVariants as item
 use Rattle.caf_source.specs.Built.{all_true, is_built, is_block_built}
 use Rattle.caf_source.specs.State.{State}
-use Rattle.caf_source.specs.Step.{step}
+use Rattle.caf_treestep.specs.Placeable.{IsPlaceable}
+use Rattle.caf_treestep.specs.Step.{step}
 
 -- whether what is to do holds such forms only
 abbrev pub is_todo_built : Todo → Bool
@@ -53,6 +54,8 @@ pub record StaysPlain (a : After Task) (t : Task) (m : ImageMemory) : Type 0 whe
   pub same : IsTrue (is_refusal a.effect) → (a.task ≡ t) × (a.memory ≡ m)
 
 pub record IsPlainImage (im : Image) : Type 0 where
+  -- each index that a section of it names fits
+  pub memory : IsPlaceable im.memory
   pub number : im.main.number ≡ 0
   pub main : IsPlainTask im.main.task
   pub shipped : im.shipped ≡ []

@@ -11,7 +11,7 @@ use Rattle.caf_program.specs.declared.stmt.StmtR.{StmtR}
 use Rattle.caf_source.specs.declared.state.Image.{Image}
 use Rattle.caf_source.specs.declared.state.Live.{Live}
 use Rattle.caf_source.specs.declared.state.Operation.{Operation}
-use Rattle.caf_source.specs.Step.{main_task}
+use Rattle.caf_treestep.specs.Step.{main_task}
 
 pub record State : Type 0 where
   pub images : List Image

@@ -1,35 +1,20 @@
 ghost use Rattle.std.specs.Prelude.{◌≡◌, [], ◌∷◌, ◌++◌, IfOk};
-ghost use Rattle.caf_base.specs.Places.{below};
 ghost use Rattle.caf_base.specs.Start.{start_memory};
 ghost use Rattle.caf_source.specs.State.{main_live, start_image, world_finish};
-ghost use Rattle.caf_source.specs.Step.{main_task as main_task_of};
+ghost use Rattle.caf_treestep.specs.Step.{main_task as main_task_of};
 
-use crate::loops::push_block;
-use crate::{Frame, Image, Live, Task, Todo};
-use caf_base::{FinishRef, Memory, Sequence, Stack, Team};
+use crate::{Image, Live};
+use caf_base::{FinishRef, Memory, Sequence, Stack};
 use caf_memory::ImageMemory;
 use caf_program::{Program, StmtR, copy_block};
+use caf_treestep::{Frame, Task, Todo, push_block, team_world};
 use std::alloc::Global;
-
-/// The numbers of the images.
-fn numbers(alloc: Global, images: u32) -> Result<Sequence<u32>, Memory>
-    ensures { IfOk result (λ members. members ≡ below images) }
-{
-    let mut members = Sequence::new(alloc);
-    for image in 0..images {
-        members.push(image)?;
-    }
-    Ok(members)
-}
 
 /// The finish of the whole program.
 fn program_finish(alloc: Global, images: u32) -> Result<FinishRef, Memory>
     ensures { IfOk result (λ f. f ≡ world_finish images) }
 {
-    let team = Team {
-        path: Sequence::new(alloc),
-        members: numbers(alloc, images)?,
-    };
+    let team = team_world(alloc, images)?;
     Ok(FinishRef { team, number: 0 })
 }
 

@@ -4,15 +4,41 @@ ghost use Rattle.std.specs.Option.{option_copied};
 ghost use Rattle.caf_base.specs.FinishRef.{encloses as encloses_finish, same_name as same_finish_name, same_path as same_team_path};
 ghost use Rattle.caf_source.specs.Built.{are_subs_built};
 ghost use Rattle.caf_source.specs.Next.{past_end, standing as standing_at, stands as stands_at};
-ghost use Rattle.caf_source.specs.Plain.{IsPlainImage, is_plain_effect, main_step, stepped_image};
+ghost use Rattle.caf_source.specs.Plain.{IsPlainImage, IsPlainTask, StaysPlain, all_clear, is_plain_effect, main_step, stepped_image};
 ghost use Rattle.caf_source.specs.Stepping.{Makes};
+ghost use Rattle.caf_treestep.specs.Placeable.{IsPlaceable};
+ghost use Rattle.caf_treestep.specs.Step.{step as step_of};
+ghost use Rattle.caf_treestep.specs.Stood.{Leaves};
 
-use crate::task_step::step_task;
-use crate::{Image, Stepped, Task, Todo};
-use caf_base::{Effect, FinishRef, Memory, Sequence};
-use caf_program::SubR;
+use crate::{Image, Stepped};
+use caf_base::{Effect, FenceClear, FinishRef, Memory, Sequence};
+use caf_memory::ImageMemory;
+use caf_program::{SubR, each_held_value_has_its_read};
+use caf_treestep::{Task, Todo, step_task};
 use std::alloc::Global;
 use std::mem;
+
+/// One Step of a task of the forms that run so far, where no copy is open.
+fn step_plain(
+    alloc: Global,
+    subs: &[SubR],
+    task: &mut Task,
+    memory: &mut ImageMemory,
+) -> Result<Effect, Memory>
+    requires plain { IsPlainTask task.old }
+    requires built { IsTrue (are_subs_built subs.now) }
+    requires memory { IsPlaceable memory.old }
+    ensures value { IfOk result (λ e. Leaves e (step_of subs.now all_clear task.old memory.old) task.new memory.new) }
+    ensures plain { StaysPlain (step_of subs.now all_clear task.old memory.old) task.old memory.old }
+    ensures memory { IfOk result (λ _. IsPlaceable memory.new) }
+{
+    each_held_value_has_its_read();
+    let clear = FenceClear {
+        reads: true,
+        writes: true,
+    };
+    step_task(alloc, subs, clear, task, memory)
+}
 
 /// A Step of an image's main task.
 pub(crate) fn step_main(alloc: Global, subs: &[SubR], image: &mut Image) -> Result<Stepped, Memory>
@@ -22,7 +48,7 @@ pub(crate) fn step_main(alloc: Global, subs: &[SubR], image: &mut Image) -> Resu
     ensures plain { IfOk result (λ _. IsPlainImage image.new) }
     ensures effect { IsTrue (is_plain_effect (main_step subs.now image.old).effect) }
 {
-    match step_task(alloc, subs, &mut image.main.task, &mut image.memory)? {
+    match step_plain(alloc, subs, &mut image.main.task, &mut image.memory)? {
         Effect::Ran => Ok(Stepped::Done),
         Effect::Traps(trap) => {
             image.trap = Some(trap);

@@ -17,9 +17,10 @@ ghost use Rattle.caf_source.specs.Stepping.{Makes, can_leave_in, of_images};
 
 use crate::first::first_image;
 use crate::image::{encloses, go_past, same_name, standing, step_main};
-use crate::{Choice, Image, Operation, Stepped, Task, Todo};
+use crate::{Choice, Image, Operation, Stepped};
 use caf_base::{Ending, FinishRef, ImageSummary, Memory, Sequence, Summary, Text};
 use caf_program::{Accepted, Program, each_held_value_has_its_read};
+use caf_treestep::{Task, Todo, memories_begin_placeable};
 use std::alloc::Global;
 use std::marker::Model;
 
@@ -132,6 +133,7 @@ impl State {
         ensures first { IfOk result (λ s. s ≡ begun a.now images) }
         ensures ready { IfOk result (λ s. CanGoOn s) }
     {
+        memories_begin_placeable();
         let program = a.program();
         let mut all = Vec::new(alloc);
         for image in 0..images {

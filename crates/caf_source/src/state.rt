@@ -1,6 +1,6 @@
-use crate::Task;
 use caf_base::{FinishRef, OpName, OpSpec, Sequence, Stage, Team, Trap};
 use caf_memory::ImageMemory;
+use caf_treestep::Task;
 
 /// An operation that is pending.
 #[derive(Drop)]

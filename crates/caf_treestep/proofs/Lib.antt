@@ -1,0 +1,6 @@
+mod FirstMemory
+mod Ending
+mod Fits
+mod Found
+mod Stays
+mod Upcoming
