@@ -8,9 +8,9 @@ use Rattle.caf_base.specs.declared.effect.Effect.TheVariants as effect
 use Rattle.caf_program.specs.Value.{value_at}
 use Rattle.caf_program.specs.declared.expr.ExprR.{ExprR}
 use Rattle.caf_program.specs.declared.stmt.StmtR.{StmtR}
-use Rattle.caf_source.specs.Step.{given, goes_on}
-use Rattle.caf_source.specs.Task.{all_of}
-use Rattle.caf_source.specs.declared.todo.Todo.{Todo}
+use Rattle.caf_treestep.specs.Step.{given, goes_on}
+use Rattle.caf_treestep.specs.Task.{all_of}
+use Rattle.caf_treestep.specs.declared.todo.Todo.{Todo}
 use Rattle.caf_code.specs.Did.{Did, Stops, found}
 use Rattle.caf_code.specs.Step.{runs}
 use Rattle.caf_code.specs.Task.{Task, past}

@@ -14,10 +14,10 @@ use Rattle.caf_program.specs.Value.{value_at}
 use Rattle.caf_program.specs.declared.expr.ExprR.{ExprR}
 use Rattle.caf_program.specs.declared.parts.PrintR.{PrintR}
 use Rattle.caf_program.specs.declared.parts.PrintR.TheVariants as part
-use Rattle.caf_source.specs.Evaluated.{held_by_part, text_of, texts_of}
-use Rattle.caf_source.specs.Step.{added, given, printed, ran}
-use Rattle.caf_source.specs.declared.task.Task.{Task as TreeTask}
-use Rattle.caf_source.specs.declared.todo.Todo.{Todo}
+use Rattle.caf_treestep.specs.Evaluated.{held_by_part, text_of, texts_of}
+use Rattle.caf_treestep.specs.Step.{added, given, printed, ran}
+use Rattle.caf_treestep.specs.declared.task.Task.{Task as TreeTask}
+use Rattle.caf_treestep.specs.declared.todo.Todo.{Todo}
 use Rattle.caf_code.specs.Did.{Did, Goes, Stops, Fails, found, there}
 use Rattle.caf_code.specs.Step.{does, runs}
 use Rattle.caf_code.specs.Task.{Task, past}

@@ -10,10 +10,10 @@ use Rattle.caf_base.specs.declared.operation.EventAt.{EventAt}
 use Rattle.caf_base.specs.declared.trap.Trap.{Trap}
 use Rattle.caf_program.specs.Value.{value_at}
 use Rattle.caf_program.specs.declared.expr.ExprR.{ExprR}
-use Rattle.caf_source.specs.Step.{At, given}
-use Rattle.caf_source.specs.declared.task.Frame.{Frame as TreeFrame}
-use Rattle.caf_source.specs.declared.task.Task.{Task as TreeTask}
-use Rattle.caf_source.specs.declared.todo.Todo.{Todo}
+use Rattle.caf_treestep.specs.Step.{At, given}
+use Rattle.caf_treestep.specs.declared.task.Frame.{Frame as TreeFrame}
+use Rattle.caf_treestep.specs.declared.task.Task.{Task as TreeTask}
+use Rattle.caf_treestep.specs.declared.todo.Todo.{Todo}
 use Rattle.caf_code.specs.Did.{Did, Goes, Stops, Blocks, Fails, Lacks, answers, found}
 use Rattle.caf_code.specs.Step.{does, does_at, ended, exec, runs, settled, then_run, unless_waiting}
 use Rattle.caf_code.specs.Task.{OpenCall, Task, past}

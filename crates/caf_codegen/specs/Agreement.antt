@@ -7,10 +7,10 @@ use Rattle.caf_base.specs.declared.effect.Effect.TheVariants as effect
 use Rattle.caf_base.specs.declared.effect.Need.TheVariants as need
 use Rattle.caf_base.specs.declared.fence.FenceClear.{FenceClear}
 use Rattle.caf_program.specs.declared.program.Program.{Program}
-use Rattle.caf_source.specs.declared.task.Task.{Task as TreeTask}
-use Rattle.caf_source.specs.declared.task.Wait.{Wait as TreeWait}
-use Rattle.caf_source.specs.declared.task.Wait.TheVariants as awaited
-use Rattle.caf_source.specs.Step.{step, past_finish, parted_task, answered as tree_answered}
+use Rattle.caf_treestep.specs.declared.task.Task.{Task as TreeTask}
+use Rattle.caf_treestep.specs.declared.task.Wait.{Wait as TreeWait}
+use Rattle.caf_treestep.specs.declared.task.Wait.TheVariants as awaited
+use Rattle.caf_treestep.specs.Step.{step, past_finish, parted_task, answered as tree_answered}
 use Rattle.caf_code.specs.Sound.{is_past_end}
 use Rattle.caf_code.specs.Step.{answered, left, parted, runs}
 use Rattle.caf_code.specs.Task.{Task}

@@ -5,7 +5,7 @@ use Rattle.caf_program.specs.Ships.{is_in}
 use Rattle.caf_program.specs.declared.program.DummyR.{DummyR}
 use Rattle.caf_program.specs.declared.program.Program.{Program}
 use Rattle.caf_program.specs.declared.program.SubR.{SubR}
-use Rattle.caf_source.specs.Step.{main_task as tree_main_task, shipped_task as tree_shipped_task}
+use Rattle.caf_treestep.specs.Step.{main_task as tree_main_task, shipped_task as tree_shipped_task}
 use Rattle.caf_code.specs.Step.{main_task, shipped_task}
 use Rattle.caf_code.specs.declared.listing.Listing.{Listing}
 use Rattle.caf_code.specs.declared.listing.SubCode.{SubCode}
