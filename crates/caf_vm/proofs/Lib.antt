@@ -1,4 +1,5 @@
 pub mod Begins
+pub mod Cases
 pub mod Copied
 pub mod Ended
 pub mod Front

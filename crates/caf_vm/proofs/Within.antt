@@ -1,25 +1,31 @@
 -- What a sound task and a sound memory have, where a Step ends.
-use Rattle.std.proofs.Common.{◌≡◌, ◌⊎◌, ◌≤◌, inl, inr, ℕ, zero, suc, ◌+◌, Bool, true, false, ◌&&◌, ◌||◌, List, [], ◌∷◌, length, Option, Some, None, refl, ap, sym, ◌∙◌, arith, pos, ◌+ℤ◌, nat_eq, nat_lt}
-use Rattle.std.specs.Prelude.{int_le, is_none, slice_get}
+use Rattle.std.proofs.Common.{◌≡◌, ◌⊎◌, ◌≤◌, inl, inr, ℕ, zero, suc, ◌+◌, Bool, true, false, ◌&&◌, ◌||◌, List, [], ◌∷◌, length, Option, Some, None, refl, subst, ap, sym, ◌∙◌, arith, pos, ◌+ℤ◌, nat_eq, nat_lt}
+use Rattle.std.specs.Prelude.{IsSomeAnd, int_le, is_none, slice_get}
 use Rattle.std.specs.List.{list_all}
 use Rattle.std.proofs.lemmas.Bool.{eqb-true, lt-ltb}
 use Rattle.std.proofs.lemmas.Int.{ints}
 use Rattle.std.proofs.lemmas.List.Folds.{list_all-map}
 use Rattle.caf_base.specs.ImageMemory.{ImageMemory}
+use Rattle.caf_base.specs.declared.effect.Effect.{Effect}
 use Rattle.caf_base.specs.declared.effect.Effect.TheVariants as effect
+use Rattle.caf_base.specs.declared.fence.FenceClear.{FenceClear}
 use Rattle.caf_base.specs.declared.object.Object.{Object}
 use Rattle.caf_base.specs.declared.operation.Section.{Section}
+use Rattle.caf_base.specs.declared.team.Team.{Team}
 use Rattle.caf_base.specs.declared.trap.Trap.TheVariants as trap
 use Rattle.caf_memory.specs.Placed.{EndsWithin}
 use Rattle.caf_code.specs.Did.{Did, Goes, Stops, Blocks, Fails, Lacks}
+use Rattle.caf_code.specs.Kept.{KeepsSound, KeepsTask}
 use Rattle.caf_code.specs.Rules.{KeepsRules, Shapes, has_last_index, is_data}
 use Rattle.caf_code.specs.Shapes.{Part, cells_in, cells_of}
-use Rattle.caf_code.specs.Sound.{AreOpenCalls, IsOpenCall, IsSoundMemory, IsSoundTask, copied_cells, lies_in}
-use Rattle.caf_code.specs.Step.{ended, go_of, settles}
+use Rattle.caf_code.specs.Sound.{AreOpenCalls, IsOpenCall, IsSound, IsSoundMemory, IsSoundTask, copied_cells, lies_in}
+use Rattle.caf_code.specs.Step.{ended, go_of, parted_memory, runs, settles}
 use Rattle.caf_code.specs.Task.{Frame, OpenCall, Task}
 use Rattle.caf_code.specs.Whole.{IsSettled}
 use Rattle.caf_code.specs.declared.listing.Listing.{Listing}
 use Rattle.caf_code.specs.declared.task.CopyOut.{CopyOut}
+use Rattle.caf_code.specs.declared.task.Wait.{Wait}
+use Rattle.caf_code.specs.declared.task.Wait.TheVariants as wait
 use Rattle.caf_base.specs.After.{After}
 use Rattle.caf_vm.specs.Calls.{HasCopied}
 use Rattle.caf_vm.specs.Left.{after_of, left_by}
@@ -93,3 +99,26 @@ ended_is code t m (Blocks n) settled = ap (λ u. after_of (effect.Blocks n) u m)
 ended_is code t m (Fails x v) settled = ap (λ u. after_of (effect.Traps x) u v) (rests code t settled)
 ended_is code t m (Goes u v) settled = ap (λ w. after_of (effect.Traps trap.Index) w v) (rests code t settled)
 ended_is code t m (Lacks v) settled = ap (λ u. after_of (effect.Traps trap.Index) u v) (rests code t settled)
+
+-- the task and the memory stay such that the code can run them
+keeps_both : (e : Effect) (X Y : Type 0) → (X → Y) → KeepsTask e X → KeepsTask e Y
+keeps_both (effect.Ends event) X Y f kept = tt
+keeps_both (effect.Traps trap) X Y f kept = tt
+keeps_both _ X Y f kept = f kept
+
+pub stays_sound : (code : Listing) → KeepsRules code → (clear : FenceClear) (t : Task) (m : ImageMemory) → KeepsSound code → IsSound code t m → KeepsTask (runs code clear t m).effect (IsSound code (runs code clear t m).task (runs code clear t m).memory)
+stays_sound code keeps clear t m law sound =
+    let a : After Task = runs code clear t m in
+    keeps_both a.effect (IsSoundTask code m.images a.task) (IsSound code a.task a.memory)
+    (λ task. record { memory = law.memory clear t m sound; task = subst (λ n. IsSoundTask code n a.task) (sym (law.images clear t m sound)) task }) (law.ran clear m.images t m sound.task)
+
+-- a new team leaves as many images
+pub parted_images : (w : Option Wait) (new : Team) (m : ImageMemory) → (parted_memory w new m).images ≡ m.images
+parted_images None new m = refl
+parted_images (Some wait.Value) new m = refl
+parted_images (Some wait.Written) new m = refl
+parted_images (Some (wait.NewTeam o)) new m = refl
+
+pub some_and : {A : Type 0} (o : Option A) (P : A → Type 0) → IsSomeAnd o P → (x : A) × (o ≡ Some x) × P x
+some_and None P h = absurd h
+some_and (Some x) P h = (x, refl, h)

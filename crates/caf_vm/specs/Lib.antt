@@ -2,6 +2,7 @@ pub mod Begun
 pub mod Blocked
 pub mod Calls
 pub mod Draft
+pub mod Examples
 pub mod Frames
 pub mod Left
 pub mod Ready

@@ -2,6 +2,7 @@
 
 ghost use Rattle.std.specs.Prelude.{◌≡◌, ◌<◌, ◌^◌, length, IfOk};
 ghost use Rattle.caf_base.specs.declared.fence.FenceClear.{FenceClear};
+ghost use Rattle.caf_code.specs.Kept.{KeepsTask};
 ghost use Rattle.caf_code.specs.Rules.{KeepsRules};
 ghost use Rattle.caf_code.specs.Sound.{IsSound};
 ghost use Rattle.caf_code.specs.Step.{exec, runs};
@@ -20,7 +21,7 @@ use crate::settle::settle_in;
 use crate::stop::Stop;
 use crate::{Memory, Task};
 use caf_base::{Effect, FenceClear};
-use caf_code::{Code, Listing, steps_lack_nothing};
+use caf_code::{Code, Listing, steps_lack_nothing, tasks_stay_sound};
 use caf_memory::ImageMemory;
 
 /// Runs one step of a task: the instructions from its address to the first that ends a step, and then every `go`. A
@@ -36,12 +37,14 @@ pub fn statement(
     requires sound { IsSound code.now task.old memory.old }
     requires settled { IsSettled code.now task.old }
     ensures runs { IfOk result (λ e. after_of e task.new memory.new ≡ runs code.now clear task.old memory.old) }
+    ensures sound { IfOk result (λ e. KeepsTask e (IsSound code.now task.new memory.new)) }
     ensures settled { IfOk result (λ _. IsSettled code.now task.new) }
 {
     if let Some(wait) = task.wait() {
         return Ok(Effect::Blocks(need_of(wait)));
     }
     steps_lack_nothing();
+    tasks_stay_sound();
     let listing = code.listing();
     let instrs = listing.instrs.as_slice();
     prove!(task.address() < instrs.len());

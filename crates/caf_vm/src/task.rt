@@ -1,8 +1,8 @@
-ghost use Rattle.std.specs.Prelude.{◌≡◌, ◌<◌, ◌+◌, ◌^◌, ◌∷◌, ◌++◌, [], List, drop, length, map, reverse, false, is_some, replicate, pos, slice_get, Some, IfOk, IsSomeAnd, OnOk};
+ghost use Rattle.std.specs.Prelude.{◌≡◌, ℕ, IsTrue, ◌<◌, ◌+◌, ◌^◌, ◌∷◌, ◌++◌, [], List, drop, length, map, reverse, false, is_some, replicate, pos, slice_get, Some, IfOk, IsSomeAnd, OnOk};
 ghost use Rattle.caf_code.specs.Calls.{opens, paired as pairs, returns};
 ghost use Rattle.caf_code.specs.Flow.{with_loops};
 ghost use Rattle.caf_code.specs.Operations.{awaits};
-ghost use Rattle.caf_code.specs.Sound.{awaits_value};
+ghost use Rattle.caf_code.specs.Sound.{IsSoundTask, awaits_value, is_carried};
 ghost use Rattle.caf_code.specs.Step.{answered, main_task, parted, shipped_task};
 ghost use Rattle.caf_code.specs.declared.listing.SubCode.{SubCode};
 ghost use Rattle.caf_vm.specs.Begun.{begun};
@@ -17,7 +17,7 @@ use crate::Memory;
 use crate::draft::{CellWrite, Draft};
 use crate::settle::settle_in;
 use caf_base::{EventAt, Text};
-use caf_code::{Code, CopyOut, CopyTarget, Listed, Loop, SubCode, Wait};
+use caf_code::{Code, CopyOut, CopyTarget, Listed, Loop, SubCode, Wait, tasks_stay_sound};
 use smallvec::SmallVec;
 use std::alloc::Global;
 use std::marker::Model;
@@ -72,8 +72,11 @@ impl Task {
     /// The task of the main program.
     pub fn main(alloc: Global, code: &Code) -> Result<Task, Memory>
         ensures begins { IfOk result (λ task. task ≡ main_task code.now) }
+        ensures sound { IfOk result (λ task. (images : ℕ) → IsSoundTask code.now images task) }
         ensures settled { IfOk result (λ task. IsSettled code.now task) }
     {
+        tasks_stay_sound();
+        let _listing = code.listing();
         let address = settle_in(code, 0);
         Ok(Task::with_cells(alloc, address, Vec::new(alloc), None))
     }
@@ -89,8 +92,10 @@ impl Task {
     ) -> Result<Task, Memory>
         requires { IsSomeAnd (slice_get code.now.subs sub) (λ found. length args.now ≡ length found.dummies) }
         ensures begins { IfOk result (λ task. (found : SubCode) → slice_get code.now.subs sub ≡ Some found → task ≡ shipped_task code.now found args.now done) }
+        ensures sound { IfOk result (λ task. (images : ℕ) → IsTrue (is_carried code.now images done) → IsSoundTask code.now images task) }
         ensures settled { IfOk result (λ task. IsSettled code.now task) }
     {
+        tasks_stay_sound();
         let found = &code.listing().subs.as_slice()[sub as usize];
         let address = settle_in(code, found.address as usize);
         let cells = first_cells(alloc, args, found.locals)?;
