@@ -42,7 +42,7 @@ use Rattle.caf_source.proofs.Both.{and_first}
 use Rattle.caf_source.proofs.Plain.{step_plain}
 use Rattle.caf_source.proofs.Steps.{no_part, no_task, no_touch, runs_plain, step_placed}
 
-abbrev is_block : Effect → Bool
+abbrev pub is_block : Effect → Bool
 is_block (effect.Blocks n) = true
 is_block _ = false
 
@@ -100,7 +100,7 @@ first_blocks (item.Returns outs ∷ rest) subs clear t m past built = return_blo
 first_blocks (item.Ends ∷ rest) subs clear t m past built = absurd (false≢true built)
 
 -- the Step blocks exactly where the task is still
-step_blocks : (subs : List SubR) (clear : FenceClear) (t : Task) (m : ImageMemory) → PastReads → IsPlainTask t → is_block (step subs clear t m).effect ≡ is_still t.frame.todo t.below
+pub step_blocks : (subs : List SubR) (clear : FenceClear) (t : Task) (m : ImageMemory) → PastReads → IsPlainTask t → is_block (step subs clear t m).effect ≡ is_still t.frame.todo t.below
 step_blocks subs clear t m past plain = ap (λ w. is_block (unless_waiting w subs clear t m).effect) plain.wait ∙ first_blocks t.frame.todo subs clear t m past plain.frame
 
 -- an image's Step is defined exactly where it doesn't block

@@ -3,3 +3,4 @@ mod Last
 mod Plain
 mod Steps
 mod Blocking
+mod Stacked

@@ -6,3 +6,4 @@ pub mod Stepping
 pub mod Built
 pub mod Kept
 pub mod Ending
+pub mod Main

@@ -1,0 +1,4 @@
+mod Appended
+mod Alone
+mod Following
+mod Standing

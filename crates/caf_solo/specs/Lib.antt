@@ -1,0 +1,5 @@
+pub mod Choices
+pub mod Waves
+pub mod RunOf
+pub mod Followed
+pub mod Led
