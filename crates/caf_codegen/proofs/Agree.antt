@@ -1,6 +1,6 @@
 -- A program and its code agree for every number of Steps.
-use Rattle.std.proofs.Common.{◌≡◌, ℕ, zero, suc, ◌+◌, ◌⊎◌, inl, inr, true, false, List, [], ◌∷◌, ◌++◌, map, length, Option, Some, None, ℤ, pos, refl, sym, ap, ◌∙◌, subst, arith, length-append}
-use Rattle.std.specs.Prelude.{Bool, ◌&&◌, replicate, slice_get}
+use Rattle.std.proofs.Common.{◌≡◌, ℕ, zero, suc, ◌+◌, ◌⊎◌, inl, inr, true, List, [], ◌∷◌, ◌++◌, map, length, Option, Some, None, ℤ, pos, refl, sym, ap, ◌∙◌, subst, arith, length-append}
+use Rattle.std.specs.Prelude.{replicate, slice_get}
 use Rattle.caf_base.specs.After.{After}
 use Rattle.caf_base.specs.ImageMemory.{ImageMemory}
 use Rattle.caf_base.specs.declared.effect.Effect.{Effect}
@@ -10,22 +10,19 @@ use Rattle.caf_base.specs.declared.fence.FenceClear.{FenceClear}
 use Rattle.caf_base.specs.declared.operation.EventAt.{EventAt}
 use Rattle.caf_program.specs.declared.program.Program.{Program}
 use Rattle.caf_program.specs.declared.program.SubR.{SubR}
-use Rattle.caf_program.specs.declared.stmt.StmtR.{StmtR}
-use Rattle.caf_source.specs.Built.{all_true}
-use Rattle.caf_treestep.specs.Step.{does_first, main_task as tree_main_task, past_finish, shipped_task as tree_shipped_task, step}
-use Rattle.caf_treestep.specs.Task.{all_of}
-use Rattle.caf_treestep.specs.declared.task.Frame.{Frame as TreeFrame}
-use Rattle.caf_treestep.specs.declared.task.Task.{Task as TreeTask}
-use Rattle.caf_treestep.specs.declared.task.Wait.{Wait as TreeWait}
-use Rattle.caf_treestep.specs.declared.task.Wait.TheVariants as awaited
-use Rattle.caf_treestep.specs.declared.todo.Todo.{Todo}
-use Rattle.caf_treestep.specs.declared.todo.Todo.TheVariants as item
+use Rattle.caf_source.specs.Step.{does_first, shipped_task as tree_shipped_task, step}
+use Rattle.caf_source.specs.Task.{all_of}
+use Rattle.caf_source.specs.declared.task.Frame.{Frame as TreeFrame}
+use Rattle.caf_source.specs.declared.task.Task.{Task as TreeTask}
+use Rattle.caf_source.specs.declared.task.Wait.{Wait as TreeWait}
+use Rattle.caf_source.specs.declared.task.Wait.TheVariants as awaited
+use Rattle.caf_source.specs.declared.todo.Todo.{Todo}
+use Rattle.caf_source.specs.declared.todo.Todo.TheVariants as item
 use Rattle.caf_code.specs.Calls.{leaves}
 use Rattle.caf_code.specs.Did.{Did, Stops, Blocks}
 use Rattle.caf_code.specs.Sound.{is_halt}
-use Rattle.caf_code.specs.Step.{go_of, left, main_task, runs, settled, settles, shipped_task}
+use Rattle.caf_code.specs.Step.{go_of, runs, settled, shipped_task}
 use Rattle.caf_code.specs.Task.{OpenCall, Task}
-use Rattle.caf_code.specs.declared.instr.Instr.{Instr}
 use Rattle.caf_code.specs.declared.instr.Instr.TheVariants as instr
 use Rattle.caf_code.specs.declared.listing.Listing.{Listing}
 use Rattle.caf_code.specs.declared.listing.SubCode.{SubCode}
@@ -39,10 +36,9 @@ use Rattle.caf_codegen.specs.Compiled.{Compiled, copied_dummies}
 use Rattle.caf_codegen.specs.ProgramCode.{main_code, main_size, program_code, sub_code, sub_entries, sub_size, subs_code, subs_texts}
 use Rattle.caf_codegen.specs.Simple.{are_subs_simple, is_block_simple, is_program_simple}
 use Rattle.caf_codegen.specs.StmtCode.{StandsAt, block, codes, sizes, texts_in}
-use Rattle.caf_codegen.proofs.Assign.{before}
 use Rattle.caf_codegen.proofs.Follows.{Continues, IsSettledAt, Settles, at_close, at_ret, at_statement, at_turn, block_continues, goes_back, jumps, past_end, settle}
 use Rattle.caf_codegen.proofs.Loops.{turn_steps}
-use Rattle.caf_codegen.proofs.Places.{has_all, has_back, has_behind, has_front, stands_all, stands_back, stands_front}
+use Rattle.caf_codegen.proofs.Places.{has_all, has_behind, has_front, stands_all, stands_back, stands_front}
 use Rattle.caf_codegen.proofs.Related.{Around, AreCallers, Related, Setting, code_at, leads_last, step_by, tree_at}
 use Rattle.caf_codegen.proofs.Sized.{sized_block}
 use Rattle.caf_codegen.proofs.Steps.{NoneLeft, stmt_steps}

@@ -1,14 +1,13 @@
 -- What a code has still to do from an address on.
-use Rattle.std.proofs.Common.{◌≡◌, ℕ, zero, suc, ◌+◌, ◌-◌, ◌<◌, ◌≤◌, true, false, List, [], ◌∷◌, ◌++◌, map, length, Option, Some, None, ℤ, refl, sym, ap, ◌∙◌, subst, arith}
-use Rattle.std.specs.Prelude.{Bool, ◌&&◌, slice_get}
+use Rattle.std.proofs.Common.{◌≡◌, ℕ, zero, suc, ◌+◌, ◌<◌, ◌≤◌, true, List, [], ◌∷◌, ◌++◌, length, Some, None, ℤ, refl, sym, ap, ◌∙◌, subst, arith}
+use Rattle.std.specs.Prelude.{slice_get}
 use Rattle.std.proofs.lemmas.Option.{slice_get_within}
 use Rattle.caf_program.specs.declared.stmt.LoopVariableR.{LoopVariableR}
 use Rattle.caf_program.specs.declared.stmt.LoopVariableR.TheVariants as loop_variable
 use Rattle.caf_program.specs.declared.stmt.StmtR.{StmtR}
-use Rattle.caf_source.specs.Built.{all_true}
-use Rattle.caf_treestep.specs.Task.{all_of}
-use Rattle.caf_treestep.specs.declared.todo.Todo.{Todo}
-use Rattle.caf_treestep.specs.declared.todo.Todo.TheVariants as item
+use Rattle.caf_source.specs.Task.{all_of}
+use Rattle.caf_source.specs.declared.todo.Todo.{Todo}
+use Rattle.caf_source.specs.declared.todo.Todo.TheVariants as item
 use Rattle.caf_code.specs.Step.{followed, go_of, settled}
 use Rattle.caf_code.specs.declared.instr.Instr.{Instr}
 use Rattle.caf_code.specs.declared.instr.Instr.TheVariants as instr
@@ -18,7 +17,7 @@ use Rattle.caf_exprgen.specs.Placed.{HasAt}
 use Rattle.caf_exprgen.specs.Words.{CodesLeaveValues}
 use Rattle.caf_codegen.specs.Simple.{is_block_simple, is_simple}
 use Rattle.caf_codegen.specs.StmtCode.{StandsAt, block, codes, sizes, stmt_code, texts_in, turn_code}
-use Rattle.caf_codegen.proofs.Places.{has_back, has_behind, has_front, stands_back, stands_front}
+use Rattle.caf_codegen.proofs.Places.{has_behind, has_front, stands_back, stands_front}
 use Rattle.caf_codegen.proofs.Sized.{sized}
 use Rattle.caf_codegen.proofs.Still.{IsStill, stmt_still}
 use Rattle.caf_codegen.proofs.Both.{first_true, second_true}

@@ -4,12 +4,14 @@ pub mod Sized
 pub mod Still
 pub mod Follows
 pub mod Related
-pub mod Assign
-pub mod Print
-pub mod Branch
+pub mod Assigned
+pub mod Printed
+pub mod Chosen
 pub mod Loops
 pub mod Steps
 pub mod Agree
 pub mod Runs
 pub mod Valid
 pub mod Whole
+pub mod Patched
+pub mod Joined

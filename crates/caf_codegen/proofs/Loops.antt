@@ -1,16 +1,13 @@
 -- Loops: `do while`, and `do` with the ends of its iterations.
-use Rattle.std.proofs.Common.{◌≡◌, ℕ, zero, suc, pred, ◌+◌, ◌-◌, ◌<◌, true, false, List, [], ◌∷◌, ◌++◌, map, length, Result, Ok, Err, ℤ, pos, refl, sym, ap, ◌∙◌, subst, arith, append_assoc, length-append}
-use Rattle.std.specs.Prelude.{Bool, ◌&&◌, slice_index_or, slice_set, if◌then◌else◌}
-use Rattle.caf_base.specs.After.{After}
+use Rattle.std.proofs.Common.{◌≡◌, ℕ, zero, suc, pred, ◌+◌, ◌-◌, true, false, List, [], ◌∷◌, ◌++◌, map, length, Result, Ok, Err, ℤ, pos, refl, sym, ◌∙◌, subst, arith, append_assoc, length-append}
+use Rattle.std.specs.Prelude.{Bool, if◌then◌else◌}
 use Rattle.caf_base.specs.Arithmetic.{Answer, is_zero, iterations, of_two}
-use Rattle.caf_base.specs.Element.{element_of}
 use Rattle.caf_base.specs.ImageMemory.{ImageMemory}
 use Rattle.caf_base.specs.Places.{bind, written}
 use Rattle.caf_base.specs.declared.arithmetic.BinaryOperator.TheVariants as operator
 use Rattle.caf_base.specs.declared.effect.Effect.TheVariants as effect
 use Rattle.caf_base.specs.declared.trap.Trap.{Trap}
 use Rattle.caf_base.specs.declared.trap.Trap.TheVariants as trap
-use Rattle.caf_program.specs.Seen.{Seen}
 use Rattle.caf_program.specs.Value.{count, value_at}
 use Rattle.caf_program.specs.declared.expr.ExprR.{ExprR}
 use Rattle.caf_program.specs.declared.stmt.LoopVariableR.{LoopVariableR}
@@ -19,20 +16,17 @@ use Rattle.caf_program.specs.declared.stmt.StmtR.{StmtR}
 use Rattle.caf_program.specs.declared.stmt.StmtR.TheOpen.{StmtR-F}
 use Rattle.caf_program.specs.declared.stmt.StmtR.TheFolds.{fold-roll-StmtR}
 use Rattle.caf_program.specs.declared.stmt.StmtR.TheViews.{roll-StmtR}
-use Rattle.caf_treestep.specs.Evaluated.{seen_in}
-use Rattle.caf_treestep.specs.Step.{At, Variables, bounds_by, counted, counter, given, goes_on, keeps, kept, loop_begun, store, turn_taken, turned, turns, variables}
-use Rattle.caf_treestep.specs.Task.{all_of}
-use Rattle.caf_treestep.specs.declared.bounds.Bounds.{Bounds}
-use Rattle.caf_treestep.specs.declared.todo.Todo.{Todo}
-use Rattle.caf_treestep.specs.declared.todo.Todo.TheVariants as item
+use Rattle.caf_source.specs.Step.{Variables, bounds_by, counted, counter, given, goes_on, keeps, kept, loop_begun, store, turned, turns}
+use Rattle.caf_source.specs.Task.{all_of}
+use Rattle.caf_source.specs.declared.bounds.Bounds.{Bounds}
+use Rattle.caf_source.specs.declared.todo.Todo.{Todo}
+use Rattle.caf_source.specs.declared.todo.Todo.TheVariants as item
 use Rattle.caf_code.specs.Did.{Did, Goes, Stops, Fails, answers, found}
 use Rattle.caf_code.specs.Flow.{enters, opens_loop, turns as code_turns}
 use Rattle.caf_code.specs.Step.{does, runs}
 use Rattle.caf_code.specs.Task.{Task, past, with_stack}
 use Rattle.caf_code.specs.declared.instr.Arithmetic.TheVariants as arithmetic
-use Rattle.caf_code.specs.declared.instr.Instr.{Instr}
 use Rattle.caf_code.specs.declared.instr.Instr.TheVariants as instr
-use Rattle.caf_code.specs.declared.listing.Listing.{Listing}
 use Rattle.caf_code.specs.declared.task.Loop.{Loop}
 use Rattle.caf_exprgen.specs.ExprCode.{expr_code}
 use Rattle.caf_exprgen.specs.Leaves.{seen_by}
@@ -40,10 +34,10 @@ use Rattle.caf_exprgen.specs.Placed.{HasAt}
 use Rattle.caf_codegen.specs.Agreement.{SameStep}
 use Rattle.caf_codegen.specs.Simple.{is_block_simple, is_simple, simple_layer}
 use Rattle.caf_codegen.specs.StmtCode.{StandsAt, StmtCode, block, bounds_code, codes, do_code, load_of, sizes, stmt_code, stmt_layer, store_of, texts_in, turn_code, while_code}
-use Rattle.caf_codegen.proofs.Assign.{before}
+use Rattle.caf_codegen.proofs.Assigned.{before}
 use Rattle.caf_codegen.proofs.Follows.{Continues, IsSettledAt, at_statement, at_turn, block_continues, goes_back, still_at}
 use Rattle.caf_codegen.proofs.Places.{has_back, has_behind, has_front}
-use Rattle.caf_codegen.proofs.Related.{Around, AreCallers, IsEnd, Leads, Related, Setting, SameFor, code_at, found_ends, found_same, leads_answer, leads_found, leads_last, leads_on, leads_value, ran_same, step_by, trap_same, tree_at}
+use Rattle.caf_codegen.proofs.Related.{Around, AreCallers, IsEnd, Related, Setting, SameFor, code_at, found_ends, found_same, leads_answer, leads_found, leads_last, leads_on, leads_value, ran_same, step_by, trap_same}
 use Rattle.caf_codegen.proofs.Sized.{sized_block}
 use Rattle.caf_codegen.proofs.Still.{expr_still}
 

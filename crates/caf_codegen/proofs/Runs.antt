@@ -1,6 +1,6 @@
 -- Shapes of instructions that stand one after another, and what the rules ask of each of them.
-use Rattle.std.proofs.Common.{◌≡◌, ℕ, zero, suc, ◌+◌, ◌<◌, ◌≤◌, true, false, List, [], ◌∷◌, ◌++◌, map, length, Option, Some, None, refl, sym, ap, ◌∙◌, subst, arith, length-append}
-use Rattle.std.specs.Prelude.{Bool, ◌&&◌, not, nat_eq, nat_lt, is_none, slice_get, if◌then◌else◌}
+use Rattle.std.proofs.Common.{◌≡◌, ℕ, zero, suc, ◌+◌, ◌<◌, ◌≤◌, true, false, List, [], ◌∷◌, ◌++◌, length, Option, Some, None, refl, sym, ap, ◌∙◌, subst, arith, length-append}
+use Rattle.std.specs.Prelude.{Bool, not, nat_eq, is_none, slice_get, if◌then◌else◌}
 use Rattle.std.proofs.lemmas.Bool.{eq-eqb, eqb-true, lt-ltb}
 use Rattle.std.proofs.lemmas.Option.{slice_get_within}
 use Rattle.caf_code.specs.Rules.{IsRight, LeadOn, Shapes, goes_on, has_operands, is_address, is_followed, is_marked, is_steady, meets_at, meets_mark, way_on, unless_marked}

@@ -1,5 +1,5 @@
 -- A statement has as many instructions as its size says, wherever it stands.
-use Rattle.std.proofs.Common.{◌≡◌, ℕ, ◌+◌, List, [], ◌∷◌, ◌++◌, map, length, refl, sym, ap, ◌∙◌, subst, arith, length-append}
+use Rattle.std.proofs.Common.{◌≡◌, ℕ, ◌+◌, List, [], ◌∷◌, ◌++◌, map, length, refl, sym, subst, arith, length-append}
 use Rattle.caf_program.specs.declared.parts.PrintR.{PrintR}
 use Rattle.caf_program.specs.declared.parts.PrintR.TheVariants as part
 use Rattle.caf_program.specs.declared.stmt.LoopVariableR.{LoopVariableR}
@@ -10,9 +10,8 @@ use Rattle.caf_program.specs.declared.stmt.StmtR.TheViews.{roll-StmtR}
 use Rattle.caf_treestep.specs.Evaluated.{held_by_part}
 use Rattle.caf_code.specs.declared.instr.Instr.{Instr}
 use Rattle.caf_code.specs.declared.instr.Instr.TheVariants as instr
-use Rattle.caf_code.specs.declared.instr.Printed.TheVariants as printed
 use Rattle.caf_exprgen.specs.ExprCode.{expr_code}
-use Rattle.caf_codegen.specs.StmtCode.{StmtCode, assign_code, block, bounds_code, codes, do_code, if_code, parts_code, sizes, stmt_code, stmt_layer, store_of, texts_in, turn_code, while_code}
+use Rattle.caf_codegen.specs.StmtCode.{StmtCode, block, bounds_code, codes, do_code, if_code, part_code, part_text, parts_code, sizes, stmt_code, stmt_layer, store_of, texts_in, turn_code, while_code}
 
 abbrev IsSized : StmtCode → Type 0
 IsSized c = (a k : ℕ) → length (c.code a k) ≡ c.size
@@ -53,15 +52,17 @@ sized_do v bounds x a k =
     omega (arith, length-append bounds (instr.Loop ∷ store_of v ∷ instr.Enter (top + sizes (kids x) + 5) ∷ (bx ++ tail)), length-append bx tail, sized_all x top k)
 
 -- the number of a text takes no room
+sized_part : (p : PrintR) (at k j : ℕ) → length (part_code p at k) ≡ length (part_code p at j)
+sized_part (part.Number e) at k j = refl
+sized_part (part.Logical e) at k j = refl
+sized_part (part.Text t) at k j = refl
+
 pub sized_parts : (l : List PrintR) (at k j : ℕ) → length (parts_code l at k) ≡ length (parts_code l at j)
 sized_parts [] at k j = refl
-sized_parts (part.Number e ∷ l) at k j =
-    let next = at + held_by_part (part.Number e) in
-    omega (arith, length-append (expr_code e at) (instr.Print printed.Number ∷ parts_code l next k), length-append (expr_code e at) (instr.Print printed.Number ∷ parts_code l next j), sized_parts l next k j)
-sized_parts (part.Logical e ∷ l) at k j =
-    let next = at + held_by_part (part.Logical e) in
-    omega (arith, length-append (expr_code e at) (instr.Print printed.Logical ∷ parts_code l next k), length-append (expr_code e at) (instr.Print printed.Logical ∷ parts_code l next j), sized_parts l next k j)
-sized_parts (part.Text t ∷ l) at k j = omega (arith, sized_parts l (at + held_by_part (part.Text t)) (k + 1) (j + 1))
+sized_parts (p ∷ l) at k j =
+    let next = at + held_by_part p in
+    let more = length (part_text p) in
+    omega (arith, length-append (part_code p at k) (parts_code l next (k + more)), length-append (part_code p at j) (parts_code l next (j + more)), sized_part p at k j, sized_parts l next (k + more) (j + more))
 
 sized_layer : (y : StmtR-F Kid) → IsSized (stmt_layer (map-StmtR StmtR StmtCode stmt_code (map-StmtR Kid StmtR (λ e. e.0) y)))
 sized_layer (StmtR-F.Assign line v e) = λ a k. refl

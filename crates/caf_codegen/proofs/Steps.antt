@@ -1,6 +1,6 @@
 -- A Step of any statement of which code is made.
-use Rattle.std.proofs.Common.{◌≡◌, ℕ, ◌+◌, ◌≤◌, true, false, List, [], ◌∷◌, ◌++◌, map, length, Option, Some, None, ℤ, refl, sym, ap, ◌∙◌, subst, arith}
-use Rattle.std.specs.Prelude.{Bool, ◌&&◌, nat_eq, slice_get}
+use Rattle.std.proofs.Common.{◌≡◌, ℕ, ◌+◌, ◌≤◌, true, false, List, [], ◌∷◌, ◌++◌, map, Option, None, ℤ, refl, sym, ◌∙◌, subst, arith}
+use Rattle.std.specs.Prelude.{Bool, ◌&&◌, slice_get}
 use Rattle.std.specs.List.{flat_map}
 use Rattle.std.proofs.lemmas.Bool.{eqb-true}
 use Rattle.caf_base.specs.ImageMemory.{ImageMemory}
@@ -21,16 +21,15 @@ use Rattle.caf_treestep.specs.declared.todo.Todo.{Todo}
 use Rattle.caf_treestep.specs.declared.todo.Todo.TheVariants as item
 use Rattle.caf_code.specs.Step.{runs}
 use Rattle.caf_code.specs.declared.task.Loop.{Loop}
-use Rattle.caf_exprgen.specs.ExprCode.{expr_code}
 use Rattle.caf_exprgen.specs.Placed.{HasAt}
 use Rattle.caf_codegen.specs.Agreement.{SameStep}
 use Rattle.caf_codegen.specs.Simple.{is_block_simple, is_simple, simple_layer}
-use Rattle.caf_codegen.specs.StmtCode.{StandsAt, StmtCode, parts_code, stmt_code, stmt_layer}
-use Rattle.caf_codegen.proofs.Assign.{before, element_steps, local_steps, scalar_steps}
-use Rattle.caf_codegen.proofs.Branch.{if_steps}
+use Rattle.caf_codegen.specs.StmtCode.{StandsAt, StmtCode, stmt_code, stmt_layer}
+use Rattle.caf_codegen.proofs.Assigned.{before, element_steps, local_steps, scalar_steps}
+use Rattle.caf_codegen.proofs.Chosen.{if_steps}
 use Rattle.caf_codegen.proofs.Follows.{Continues}
 use Rattle.caf_codegen.proofs.Loops.{do_steps, while_steps}
-use Rattle.caf_codegen.proofs.Print.{print_steps}
+use Rattle.caf_codegen.proofs.Printed.{print_steps}
 use Rattle.caf_codegen.proofs.Related.{Around, AreCallers, Related, Setting, code_at}
 use Rattle.caf_codegen.proofs.Sized.{sized_parts}
 use Rattle.caf_codegen.proofs.Both.{first_true, second_true}
@@ -46,7 +45,7 @@ count_append : (es fs : List ExprR) → count_all (es ++ fs) ≡ count_all es + 
 count_append [] fs = let e : count_all fs ≡ 0 + count_all fs = omega arith in e
 count_append (e ∷ es) fs = omega (arith, count_append es fs)
 
-part_none : (p : PrintR) → is_part_plain p ≡ true → count_all (of_part p) ≡ 0
+pub part_none : (p : PrintR) → is_part_plain p ≡ true → count_all (of_part p) ≡ 0
 part_none (part.Number e) h = omega (arith, plain_none e h)
 part_none (part.Logical e) h = omega (arith, plain_none e h)
 part_none (part.Text t) h = refl

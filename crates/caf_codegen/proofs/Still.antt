@@ -1,6 +1,5 @@
 -- No code of a statement begins with a `go`.
-use Rattle.std.proofs.Common.{◌≡◌, ℕ, ◌+◌, true, false, List, [], ◌∷◌, ◌++◌, map, Option, Some, None, refl, sym, ap, ◌∙◌, subst}
-use Rattle.std.specs.Prelude.{Bool, ◌&&◌}
+use Rattle.std.proofs.Common.{◌≡◌, ℕ, true, false, List, [], ◌∷◌, ◌++◌, Some, None, refl, sym, subst}
 use Rattle.caf_program.specs.declared.expr.ExprR.{ExprR}
 use Rattle.caf_program.specs.declared.parts.PrintR.{PrintR}
 use Rattle.caf_program.specs.declared.parts.PrintR.TheVariants as part
@@ -15,7 +14,7 @@ use Rattle.caf_code.specs.declared.instr.Instr.TheVariants as instr
 use Rattle.caf_exprgen.specs.ExprCode.{expr_code}
 use Rattle.caf_exprgen.specs.Straight.{all_inner, is_inner, is_within_step}
 use Rattle.caf_exprgen.specs.Words.{CodesLeaveValues}
-use Rattle.caf_codegen.specs.StmtCode.{StmtCode, bounds_code, parts_code, stmt_code, stmt_layer}
+use Rattle.caf_codegen.specs.StmtCode.{StmtCode, bounds_code, part_code, parts_code, stmt_code, stmt_layer}
 use Rattle.caf_codegen.proofs.Both.{first_true}
 
 abbrev pub IsStill : List Instr → Type 0
@@ -38,11 +37,14 @@ module _ (laws : CodesLeaveValues) where
   pub expr_still : (e : ExprR) (at : ℕ) → IsStill (expr_code e at)
   expr_still e at = within_still (expr_code e at) (laws.within e at)
 
+  part_still : (p : PrintR) (at k : ℕ) → IsStill (part_code p at k)
+  part_still (part.Number e) at k = still_front (expr_code e at) _ (expr_still e at)
+  part_still (part.Logical e) at k = still_front (expr_code e at) _ (expr_still e at)
+  part_still (part.Text t) at k = refl
+
   parts_still : (l : List PrintR) (at k : ℕ) → IsStill (parts_code l at k)
   parts_still [] at k = refl
-  parts_still (part.Number e ∷ l) at k = still_front (expr_code e at) _ (expr_still e at)
-  parts_still (part.Logical e ∷ l) at k = still_front (expr_code e at) _ (expr_still e at)
-  parts_still (part.Text t ∷ l) at k = refl
+  parts_still (p ∷ l) at k = still_front (part_code p at k) _ (part_still p at k)
 
   layer_still : (l : StmtR-F StmtR) (a k : ℕ) → IsStill ((stmt_layer (map-StmtR StmtR StmtCode stmt_code l)).code a k)
   layer_still (StmtR-F.Assign line (variable.Scalar o) e) a k = still_front (expr_code e 0) _ (expr_still e 0)

@@ -1,5 +1,5 @@
 -- The code of statements that keep the rules keeps those of a code.
-use Rattle.std.proofs.Common.{◌≡◌, ℕ, zero, suc, ◌+◌, ◌<◌, ◌≤◌, true, false, List, [], ◌∷◌, ◌++◌, map, length, Option, Some, None, refl, sym, ap, ◌∙◌, subst, arith, append_assoc, length-append}
+use Rattle.std.proofs.Common.{◌≡◌, ℕ, suc, ◌+◌, ◌<◌, ◌≤◌, true, false, List, [], ◌∷◌, ◌++◌, map, length, Option, Some, None, refl, sym, ap, ◌∙◌, subst, arith, length-append}
 use Rattle.std.specs.Prelude.{Bool, ◌&&◌, nat_lt, slice_get}
 use Rattle.std.specs.List.{list_all}
 use Rattle.std.proofs.lemmas.Bool.{lt-ltb}
@@ -9,7 +9,7 @@ use Rattle.caf_base.specs.declared.object.Kind.TheVariants as kind
 use Rattle.caf_base.specs.declared.object.Object.{Object}
 use Rattle.caf_program.specs.Expressions.{count_all}
 use Rattle.caf_program.specs.Kinds.{FrameCell, Scope, agree_in_kind, cell_kind, element_kind, has_kind, is_integer, is_logical, is_scalar, kind_of, object_kind, provided, scalar_kind}
-use Rattle.caf_program.specs.Rules.{Keeps, Loops, all_keep, fits_part, free_cell, free_object, keeps_rules, may_assign, may_count, rule_layer, variable_kind}
+use Rattle.caf_program.specs.Rules.{Keeps, Loops, all_keep, fits_part, free_cell, free_object, keeps_rules, may_count, rule_layer, variable_kind}
 use Rattle.caf_program.specs.Value.{count}
 use Rattle.caf_program.specs.declared.expr.ExprR.{ExprR}
 use Rattle.caf_program.specs.declared.parts.PrintR.{PrintR}
@@ -24,9 +24,9 @@ use Rattle.caf_program.specs.declared.stmt.StmtR.TheOpen.{StmtR-F}
 use Rattle.caf_program.specs.declared.stmt.StmtR.TheFolds.{ind-StmtR, fold-roll-StmtR, map-StmtR}
 use Rattle.caf_program.specs.declared.stmt.StmtR.TheViews.{roll-StmtR}
 use Rattle.caf_source.specs.Built.{all_true, is_part_plain, is_plain}
-use Rattle.caf_treestep.specs.Evaluated.{held_by_part}
-use Rattle.caf_code.specs.Rules.{LeadOn, has_operands, is_data, is_data_kind, is_marked, goes_on, of_kind}
-use Rattle.caf_code.specs.Shapes.{Part, Shape, cells_of, leads, next_shape, only_if, pops}
+use Rattle.caf_source.specs.Evaluated.{held_by_part}
+use Rattle.caf_code.specs.Rules.{has_operands, is_data, is_data_kind, of_kind}
+use Rattle.caf_code.specs.Shapes.{Part, Shape, cells_of, next_shape, only_if}
 use Rattle.caf_code.specs.Step.{go_of}
 use Rattle.caf_code.specs.declared.instr.Arithmetic.TheVariants as arithmetic
 use Rattle.caf_code.specs.declared.instr.CellUse.TheVariants as cell
@@ -40,11 +40,11 @@ use Rattle.caf_exprgen.specs.Placed.{HasAt}
 use Rattle.caf_exprgen.specs.Straight.{Serves, all_inner, is_inner, is_within_step, with_operand}
 use Rattle.caf_exprgen.specs.Words.{CodesLeaveValues}
 use Rattle.caf_codegen.specs.Simple.{is_block_simple, is_simple, simple_layer}
-use Rattle.caf_codegen.specs.StmtCode.{StandsAt, StmtCode, assign_code, block, bounds_code, codes, do_code, if_code, load_of, part_texts, parts_code, print_code, sizes, stmt_code, stmt_layer, store_of, texts_in, turn_code, while_code}
+use Rattle.caf_codegen.specs.StmtCode.{StandsAt, StmtCode, assign_code, block, bounds_code, codes, do_code, if_code, load_of, part_code, part_text, part_texts, parts_code, sizes, stmt_code, stmt_layer, store_of, texts_in, turn_code, while_code}
 use Rattle.caf_codegen.proofs.Places.{has_back, has_behind, has_front, stands_back, stands_front}
-use Rattle.caf_codegen.proofs.Runs.{AllFine, Entry, Fine, HasRun, Piece, Rests, Spot, after_append, inner_still, Target, after_all, fine_append, inner_piece, is_fine, is_there, meets_here, next_or, piece_none, piece_seq, piece_weaker, rests_back, rests_here, rests_on, run_behind, run_front, shape_or, shapes_in, stand_in, straight_piece}
-use Rattle.caf_codegen.proofs.Sized.{sized, sized_block, sized_parts}
-use Rattle.caf_codegen.proofs.Steps.{plain_none}
+use Rattle.caf_codegen.proofs.Runs.{AllFine, Entry, Fine, HasRun, Piece, Rests, Spot, after_append, inner_still, Target, after_all, fine_append, inner_piece, is_fine, is_there, meets_here, piece_none, piece_seq, piece_weaker, rests_back, rests_here, rests_on, run_behind, run_front, shape_or, stand_in, straight_piece}
+use Rattle.caf_codegen.proofs.Sized.{sized, sized_block}
+use Rattle.caf_codegen.proofs.Steps.{part_none, plain_none}
 use Rattle.caf_codegen.proofs.Both.{first_true, second_true}
 
 -- between statements: some loops and some finishes are open
@@ -170,32 +170,33 @@ module _ (laws : CodesLeaveValues) (code : Listing) (all : List Entry) (p : Part
       (inner_piece code all p (instr.Store reach.Element o) c h2 (plain l f) refl (element_there o kinds.0.0 both.1) refl) (next_piece (c + 1) l f)))
 
   -- a printed line
+  part_piece : (x : PrintR) (at k a l f : ℕ) → at ≡ 0 → is_part_plain x ≡ true → fits_part s x ≡ true → StandsAt code.texts k (part_text x) → Piece code all p true true (part_code x at k) a (plain l f) (plain l f)
+  part_piece (part.Number e) at k a l f zero_at simple fits texts =
+      let h = with_operand (plain l f) in
+      let b = a + length (expr_code e at) in
+      let kind = has_some Integer (kind_of s e) fits in
+      piece_seq code all p true true true (expr_code e at) (instr.Print printed.Number ∷ []) a b (plain l f) h (plain l f) refl (value_piece e at a kind.0 (plain l f) kind.1 (omega (arith, zero_at, plain_none e simple)))
+      (inner_piece code all p (instr.Print printed.Number) b h (plain l f) refl refl refl)
+  part_piece (part.Logical e) at k a l f zero_at simple fits texts =
+      let h = with_operand (plain l f) in
+      let b = a + length (expr_code e at) in
+      let kind = has_some Logical (kind_of s e) fits in
+      piece_seq code all p true true true (expr_code e at) (instr.Print printed.Logical ∷ []) a b (plain l f) h (plain l f) refl (value_piece e at a kind.0 (plain l f) kind.1 (omega (arith, zero_at, plain_none e simple)))
+      (inner_piece code all p (instr.Print printed.Logical) b h (plain l f) refl refl refl)
+  part_piece (part.Text t) at k a l f zero_at simple fits texts =
+      inner_piece code all p (instr.Print (printed.Text k)) a (plain l f) (plain l f) refl (lt-ltb k (length code.texts) (slice_get_within code.texts k t texts.0)) refl
+
   parts_piece : (parts : List PrintR) (at k a l f : ℕ) → at ≡ 0 → all_true (map is_part_plain parts) ≡ true → list_all (fits_part s) parts ≡ true → StandsAt code.texts k (part_texts parts)
       → Piece code all p false true (parts_code parts at k) a (plain l f) (plain l f)
   parts_piece [] at k a l f zero_at simple fits texts = line_piece a l f
-  parts_piece (part.Number e ∷ parts) at k a l f zero_at simple fits texts =
-      let h = with_operand (plain l f) in
-      let b = a + length (expr_code e at) in
-      let more = parts_code parts (at + held_by_part (part.Number e)) k in
-      let none = plain_none e (first_true (is_plain e) (all_true (map is_part_plain parts)) simple) in
-      let kind = has_some Integer (kind_of s e) (first_true (is_integer (kind_of s e)) (list_all (fits_part s) parts) fits) in
-      piece_seq code all p false true true (expr_code e at) _ a b (plain l f) h (plain l f) refl (value_piece e at a kind.0 (plain l f) kind.1 (omega (arith, none)))
-      (piece_seq code all p false true true (instr.Print printed.Number ∷ []) more b (b + 1) h (plain l f) (plain l f) refl (inner_piece code all p (instr.Print printed.Number) b h (plain l f) refl refl refl)
-      (parts_piece parts (at + held_by_part (part.Number e)) k (b + 1) l f (omega (arith, none)) (second_true (is_plain e) (all_true (map is_part_plain parts)) simple) (second_true (is_integer (kind_of s e)) (list_all (fits_part s) parts) fits) texts))
-  parts_piece (part.Logical e ∷ parts) at k a l f zero_at simple fits texts =
-      let h = with_operand (plain l f) in
-      let b = a + length (expr_code e at) in
-      let more = parts_code parts (at + held_by_part (part.Logical e)) k in
-      let none = plain_none e (first_true (is_plain e) (all_true (map is_part_plain parts)) simple) in
-      let kind = has_some Logical (kind_of s e) (first_true (is_logical (kind_of s e)) (list_all (fits_part s) parts) fits) in
-      piece_seq code all p false true true (expr_code e at) _ a b (plain l f) h (plain l f) refl (value_piece e at a kind.0 (plain l f) kind.1 (omega (arith, none)))
-      (piece_seq code all p false true true (instr.Print printed.Logical ∷ []) more b (b + 1) h (plain l f) (plain l f) refl (inner_piece code all p (instr.Print printed.Logical) b h (plain l f) refl refl refl)
-      (parts_piece parts (at + held_by_part (part.Logical e)) k (b + 1) l f (omega (arith, none)) (second_true (is_plain e) (all_true (map is_part_plain parts)) simple) (second_true (is_logical (kind_of s e)) (list_all (fits_part s) parts) fits) texts))
-  parts_piece (part.Text t ∷ parts) at k a l f zero_at simple fits texts =
-      let more = parts_code parts (at + held_by_part (part.Text t)) (k + 1) in
-      piece_seq code all p false true true (instr.Print (printed.Text k) ∷ []) more a (a + 1) (plain l f) (plain l f) (plain l f) refl
-      (inner_piece code all p (instr.Print (printed.Text k)) a (plain l f) (plain l f) refl (lt-ltb k (length code.texts) (slice_get_within code.texts k t texts.0)) refl)
-      (parts_piece parts (at + held_by_part (part.Text t)) (k + 1) (a + 1) l f (omega arith) simple fits texts.1)
+  parts_piece (x ∷ parts) at k a l f zero_at simple fits texts =
+      let here = part_code x at k in
+      let b = a + length here in
+      let plain_x = first_true (is_part_plain x) (all_true (map is_part_plain parts)) simple in
+      piece_seq code all p false true true here _ a b (plain l f) (plain l f) (plain l f) refl
+      (part_piece x at k a l f zero_at plain_x (first_true (fits_part s x) (list_all (fits_part s) parts) fits) (stands_front code.texts k (part_text x) (part_texts parts) texts))
+      (parts_piece parts (at + held_by_part x) (k + length (part_text x)) b l f (omega (arith, zero_at, part_none x plain_x)) (second_true (is_part_plain x) (all_true (map is_part_plain parts)) simple)
+      (second_true (fits_part s x) (list_all (fits_part s) parts) fits) (stands_back code.texts k (part_text x) (part_texts parts) texts))
 
   -- a statement between others
   abbrev Good : StmtCode → Bool → Keeps → Type 0

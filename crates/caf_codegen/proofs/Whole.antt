@@ -1,21 +1,20 @@
 -- The code of a program that keeps the rules keeps those of a code.
-use Rattle.std.proofs.Common.{◌≡◌, ℕ, zero, suc, ◌+◌, ◌<◌, ◌≤◌, true, false, List, [], ◌∷◌, ◌++◌, map, length, Option, Some, None, refl, sym, ap, ◌∙◌, subst, arith, length-append}
-use Rattle.std.specs.Prelude.{Bool, ◌&&◌, not, int_le, nat_le, slice_get, if◌then◌else◌}
+use Rattle.std.proofs.Common.{◌≡◌, ℕ, zero, suc, ◌+◌, ◌<◌, true, false, List, [], ◌∷◌, ◌++◌, map, length, Option, Some, None, refl, sym, ap, ◌∙◌, subst, arith, length-append}
+use Rattle.std.specs.Prelude.{Bool, ◌&&◌, not, nat_le, slice_get, if◌then◌else◌}
 use Rattle.std.specs.List.{list_all}
 use Rattle.std.proofs.lemmas.List.{length-map}
 use Rattle.std.proofs.lemmas.Option.{slice_get_within}
 use Rattle.caf_base.specs.declared.object.Object.{Object}
 use Rattle.caf_program.specs.Accepted.{IsAccepted, cell_of, cells_of as frame_cells, is_declared, main_scope, sub_keeps_rules, sub_scope}
-use Rattle.caf_program.specs.Rules.{block_keeps_rules, keeps_rules}
+use Rattle.caf_program.specs.Rules.{block_keeps_rules}
 use Rattle.caf_program.specs.Kinds.{FrameCell}
 use Rattle.caf_program.specs.Ships.{is_in}
 use Rattle.caf_program.specs.declared.program.DummyR.{DummyR}
 use Rattle.caf_program.specs.declared.program.ValueKind.{ValueKind}
 use Rattle.caf_program.specs.declared.program.Program.{Program}
 use Rattle.caf_program.specs.declared.program.SubR.{SubR}
-use Rattle.caf_code.specs.Rules.{AreShapes, IsRight, KeepsRules, LeadOn, Shapes, has_last_index}
-use Rattle.caf_code.specs.Shapes.{Part, Main, Sub, Shape, cells_in, cells_of, leads}
-use Rattle.caf_code.specs.declared.instr.Instr.{Instr}
+use Rattle.caf_code.specs.Rules.{AreShapes, KeepsRules, LeadOn, has_last_index}
+use Rattle.caf_code.specs.Shapes.{Part, Main, Sub, Shape, cells_in, leads}
 use Rattle.caf_code.specs.declared.instr.Instr.TheVariants as instr
 use Rattle.caf_code.specs.declared.listing.Listing.{Listing}
 use Rattle.caf_code.specs.declared.listing.SubCode.{SubCode}
@@ -28,8 +27,8 @@ use Rattle.caf_codegen.specs.Simple.{are_subs_simple, is_block_simple, is_progra
 use Rattle.caf_codegen.specs.StmtCode.{StandsAt, block, codes, sizes, texts_in}
 use Rattle.caf_codegen.proofs.Agree.{sub_sized}
 use Rattle.caf_codegen.proofs.Both.{first_true, second_true}
-use Rattle.caf_codegen.proofs.Places.{has_all, has_back, has_behind, has_front, stands_all, stands_back, stands_front}
-use Rattle.caf_codegen.proofs.Runs.{AllFine, Entry, Fine, HasRun, Piece, Spot, Target, entries, entries_length, fine_append, fine_at, in_part, is_fine, is_there, meets_here, rests_here, run_behind, run_front, run_of, same_part, same_parts, shapes_in, stand_in}
+use Rattle.caf_codegen.proofs.Places.{has_all, has_behind, has_front, stands_all, stands_back, stands_front}
+use Rattle.caf_codegen.proofs.Runs.{AllFine, Entry, Fine, HasRun, Spot, Target, entries, entries_length, fine_append, fine_at, in_part, is_fine, is_there, meets_here, rests_here, run_behind, run_front, run_of, same_part, same_parts, shapes_in, stand_in}
 use Rattle.caf_codegen.proofs.Sized.{sized_block}
 use Rattle.caf_codegen.proofs.Valid.{body_piece, plain}
 

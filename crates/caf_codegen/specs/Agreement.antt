@@ -1,5 +1,5 @@
 -- When a task of a code does what a task over trees does.
-use Rattle.std.specs.Prelude.{◌≡◌, ℕ, zero, suc, ◌⊎◌, List, [], Option, Some, None, ℤ, IsTrue}
+use Rattle.std.specs.Prelude.{◌≡◌, ℕ, zero, suc, ◌⊎◌, [], Option, Some, None, ℤ, IsTrue}
 use Rattle.caf_base.specs.After.{After}
 use Rattle.caf_base.specs.ImageMemory.{ImageMemory}
 use Rattle.caf_base.specs.declared.effect.Effect.{Effect}

@@ -1,6 +1,6 @@
 -- The statements of which code is made so far: assignment, `print`, `if`, `do` and `do while`, with expressions that read
 -- no element of another image and none behind a copointer.
-use Rattle.std.specs.Prelude.{Bool, true, false, ◌&&◌, List, map}
+use Rattle.std.specs.Prelude.{Bool, false, ◌&&◌, List, map}
 use Rattle.caf_program.specs.declared.program.Program.{Program}
 use Rattle.caf_program.specs.declared.program.SubR.{SubR}
 use Rattle.caf_program.specs.declared.stmt.StmtR.{StmtR}

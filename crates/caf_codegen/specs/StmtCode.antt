@@ -1,7 +1,7 @@
 -- The instructions of statements. Addresses are absolute, so that those of a statement depend on where it stands; how
 -- many there are doesn't.
 use Rattle.std.specs.Prelude.{◌≡◌, ℕ, ◌+◌, List, [], ◌∷◌, ◌++◌, length, map, Some, slice_get}
-use Rattle.caf_program.specs.Expressions.{count_all, of_variable}
+use Rattle.caf_program.specs.Expressions.{count_all}
 use Rattle.caf_program.specs.Value.{count}
 use Rattle.caf_program.specs.declared.expr.ExprR.{ExprR}
 use Rattle.caf_program.specs.declared.parts.PrintR.{PrintR}
@@ -59,20 +59,32 @@ assign_code (variable.Local k) e = expr_code e 0 ++ (instr.Cell cell.Set k ∷ i
 assign_code (variable.Element o i) e = expr_code i 0 ++ (expr_code e (0 + count_all (i ∷ [])) ++ (instr.Store reach.Element o ∷ instr.Next ∷ []))
 assign_code _ e = instr.Next ∷ []
 
--- the parts of a line, where the first value that they hold is held at a place, and the first text has a number
+-- a part of a line, where the first value that it holds is held at a place, and its text has a number
+abbrev pub part_code : PrintR → ℕ → ℕ → List Instr
+part_code (part.Number e) at k = expr_code e at ++ (instr.Print printed.Number ∷ [])
+part_code (part.Logical e) at k = expr_code e at ++ (instr.Print printed.Logical ∷ [])
+part_code (part.Text t) at k = instr.Print (printed.Text k) ∷ []
+
+abbrev pub part_text : PrintR → List (List ℕ)
+part_text (part.Number e) = []
+part_text (part.Logical e) = []
+part_text (part.Text t) = t ∷ []
+
+-- the parts of a line, and its end
 abbrev pub parts_code : List PrintR → ℕ → ℕ → List Instr
 parts_code [] at k = instr.Line ∷ []
-parts_code (part.Number e ∷ rest) at k = expr_code e at ++ (instr.Print printed.Number ∷ parts_code rest (at + held_by_part (part.Number e)) k)
-parts_code (part.Logical e ∷ rest) at k = expr_code e at ++ (instr.Print printed.Logical ∷ parts_code rest (at + held_by_part (part.Logical e)) k)
-parts_code (part.Text t ∷ rest) at k = instr.Print (printed.Text k) ∷ parts_code rest (at + held_by_part (part.Text t)) (k + 1)
+parts_code (p ∷ rest) at k = part_code p at k ++ parts_code rest (at + held_by_part p) (k + length (part_text p))
 
 abbrev pub part_texts : List PrintR → List (List ℕ)
 part_texts [] = []
-part_texts (part.Text t ∷ rest) = t ∷ part_texts rest
-part_texts (p ∷ rest) = part_texts rest
+part_texts (p ∷ rest) = part_text p ++ part_texts rest
 
 abbrev pub print_code : List PrintR → StmtCode
 print_code parts = record { size = length (parts_code parts 0 0); texts = part_texts parts; code = λ a k. parts_code parts 0 k }
+
+-- a block behind a test, which leads past it where it fails, and behind the block a jump to an address
+abbrev pub guarded : List StmtCode → ℕ → ℕ → ℕ → List Instr
+guarded x next a k = instr.Test (a + 1 + sizes x + 1) ∷ (block x (a + 1) k ++ (instr.Go next ∷ []))
 
 -- a test that leads to the second block where it fails, and behind the first block a jump over the second
 abbrev pub if_code : List Instr → List StmtCode → List StmtCode → StmtCode
@@ -88,7 +100,7 @@ abbrev pub while_code : List Instr → List StmtCode → StmtCode
 while_code test x = record {
   size = length test + 1 + sizes x + 1;
   texts = texts_in x;
-  code = λ a k. let first = a + length test + 1 in test ++ (instr.Test (first + sizes x + 1) ∷ (block x first k ++ (instr.Go a ∷ [])));
+  code = λ a k. test ++ guarded x a (a + length test) k;
 }
 
 abbrev pub load_of : LoopVariableR → Instr

@@ -4,6 +4,14 @@
 //! code does what a program says. `specs/StmtCode.antt` and `specs/ProgramCode.antt` have the instructions.
 #![tactic(auto)]
 
+mod assign;
+mod emit;
 mod law;
+mod made;
+mod print;
+mod program;
+mod statement;
 
 pub use law::made_codes_do_what_programs_say;
+pub use made::is_made;
+pub use program::compile;

@@ -1,5 +1,5 @@
 -- An assignment to a scalar, a cell of the frame or an element of this image.
-use Rattle.std.proofs.Common.{◌≡◌, ℕ, ◌+◌, List, [], ◌∷◌, ◌++◌, length, Result, Ok, Err, ℤ, pos, refl, sym, ap, ◌∙◌, subst, arith, length-append}
+use Rattle.std.proofs.Common.{◌≡◌, ℕ, ◌+◌, List, [], ◌∷◌, ◌++◌, length, Result, Ok, Err, ℤ, pos, refl, subst, arith, length-append}
 use Rattle.std.specs.Prelude.{slice_set}
 use Rattle.caf_base.specs.After.{After}
 use Rattle.caf_base.specs.Arithmetic.{Answer}
@@ -11,16 +11,15 @@ use Rattle.caf_program.specs.Expressions.{count_all}
 use Rattle.caf_program.specs.Value.{value_at}
 use Rattle.caf_program.specs.declared.expr.ExprR.{ExprR}
 use Rattle.caf_program.specs.declared.parts.VariableR.TheVariants as variable
-use Rattle.caf_treestep.specs.Step.{At, Variables, assigns, keeps, store, variables}
-use Rattle.caf_treestep.specs.declared.task.Task.{Task as TreeTask}
-use Rattle.caf_treestep.specs.declared.todo.Target.{Target}
-use Rattle.caf_treestep.specs.declared.todo.Target.TheVariants as target
-use Rattle.caf_treestep.specs.declared.todo.Todo.{Todo}
-use Rattle.caf_code.specs.Did.{Did, Goes, Stops, found}
+use Rattle.caf_source.specs.Step.{At, assigns, keeps, store, variables}
+use Rattle.caf_source.specs.declared.task.Task.{Task as TreeTask}
+use Rattle.caf_source.specs.declared.todo.Target.{Target}
+use Rattle.caf_source.specs.declared.todo.Target.TheVariants as target
+use Rattle.caf_source.specs.declared.todo.Todo.{Todo}
+use Rattle.caf_code.specs.Did.{Did, Stops, found}
 use Rattle.caf_code.specs.Step.{runs}
 use Rattle.caf_code.specs.Task.{Task, past}
 use Rattle.caf_code.specs.declared.instr.CellUse.TheVariants as cell
-use Rattle.caf_code.specs.declared.instr.Instr.{Instr}
 use Rattle.caf_code.specs.declared.instr.Instr.TheVariants as instr
 use Rattle.caf_code.specs.declared.instr.Reach.TheVariants as reach
 use Rattle.caf_code.specs.declared.task.Loop.{Loop}
@@ -30,7 +29,7 @@ use Rattle.caf_exprgen.specs.Placed.{HasAt}
 use Rattle.caf_codegen.specs.Agreement.{SameStep}
 use Rattle.caf_codegen.specs.StmtCode.{assign_code}
 use Rattle.caf_codegen.proofs.Follows.{Continues}
-use Rattle.caf_codegen.proofs.Related.{Around, AreCallers, Related, Setting, SameFor, code_at, found_ends, found_same, leads_found, leads_last, leads_on, leads_value, ran_same, step_by, trap_same, tree_at}
+use Rattle.caf_codegen.proofs.Related.{Around, AreCallers, Related, Setting, SameFor, code_at, found_ends, leads_found, leads_last, leads_on, leads_value, ran_same, step_by, trap_same, tree_at}
 
 -- where the tree task stands before a statement
 abbrev pub before : Around → List ℤ → Todo → List Todo → ImageMemory → At

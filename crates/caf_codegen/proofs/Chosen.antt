@@ -1,8 +1,7 @@
 -- A choice between two blocks.
-use Rattle.std.proofs.Common.{◌≡◌, ℕ, ◌+◌, ◌<◌, true, false, List, [], ◌∷◌, ◌++◌, map, length, Result, Ok, Err, ℤ, refl, sym, ap, ◌∙◌, subst, arith, append_assoc, length-append}
-use Rattle.std.specs.Prelude.{Bool, ◌&&◌, if◌then◌else◌}
-use Rattle.caf_base.specs.After.{After}
-use Rattle.caf_base.specs.Arithmetic.{Answer, is_zero}
+use Rattle.std.proofs.Common.{◌≡◌, ℕ, ◌+◌, true, false, List, [], ◌∷◌, ◌++◌, length, ℤ, refl, sym, subst, arith, append_assoc}
+use Rattle.std.specs.Prelude.{Bool, if◌then◌else◌}
+use Rattle.caf_base.specs.Arithmetic.{is_zero}
 use Rattle.caf_base.specs.ImageMemory.{ImageMemory}
 use Rattle.caf_base.specs.declared.effect.Effect.TheVariants as effect
 use Rattle.caf_program.specs.Value.{value_at}
@@ -13,7 +12,7 @@ use Rattle.caf_treestep.specs.Task.{all_of}
 use Rattle.caf_treestep.specs.declared.todo.Todo.{Todo}
 use Rattle.caf_code.specs.Did.{Did, Stops, found}
 use Rattle.caf_code.specs.Step.{runs}
-use Rattle.caf_code.specs.Task.{Task, past}
+use Rattle.caf_code.specs.Task.{past}
 use Rattle.caf_code.specs.declared.instr.Instr.{Instr}
 use Rattle.caf_code.specs.declared.instr.Instr.TheVariants as instr
 use Rattle.caf_code.specs.declared.task.Loop.{Loop}
@@ -23,7 +22,7 @@ use Rattle.caf_exprgen.specs.Placed.{HasAt}
 use Rattle.caf_codegen.specs.Agreement.{SameStep}
 use Rattle.caf_codegen.specs.Simple.{is_block_simple}
 use Rattle.caf_codegen.specs.StmtCode.{StandsAt, block, codes, if_code, sizes, texts_in}
-use Rattle.caf_codegen.proofs.Assign.{before}
+use Rattle.caf_codegen.proofs.Assigned.{before}
 use Rattle.caf_codegen.proofs.Follows.{Continues, block_continues, jumps}
 use Rattle.caf_codegen.proofs.Places.{has_back, has_behind, has_front, stands_back, stands_front}
 use Rattle.caf_codegen.proofs.Related.{Around, AreCallers, Related, Setting, SameFor, code_at, found_ends, found_same, leads_last, leads_value, ran_same, step_by}

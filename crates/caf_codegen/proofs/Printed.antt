@@ -1,7 +1,6 @@
 -- A printed line.
-use Rattle.std.proofs.Common.{◌≡◌, ℕ, ◌+◌, true, false, List, [], ◌∷◌, ◌++◌, length, Some, Result, Ok, Err, ℤ, refl, sym, ap, ◌∙◌, subst, arith, append_assoc, append-nil, length-append}
+use Rattle.std.proofs.Common.{◌≡◌, ℕ, ◌+◌, true, false, List, [], ◌∷◌, ◌++◌, length, Some, Result, Ok, Err, ℤ, refl, sym, ap, subst, arith, append_assoc, append-nil, length-append}
 use Rattle.std.specs.Prelude.{Bool, slice_get, if◌then◌else◌}
-use Rattle.caf_base.specs.After.{After}
 use Rattle.caf_base.specs.Arithmetic.{Answer}
 use Rattle.caf_base.specs.ImageMemory.{ImageMemory}
 use Rattle.caf_base.specs.Line.{has_room, line_of, logical_text, number_text, with_line}
@@ -11,17 +10,14 @@ use Rattle.caf_base.specs.declared.trap.Trap.{Trap}
 use Rattle.caf_base.specs.declared.trap.Trap.TheVariants as trap
 use Rattle.caf_program.specs.Seen.{Seen}
 use Rattle.caf_program.specs.Value.{value_at}
-use Rattle.caf_program.specs.declared.expr.ExprR.{ExprR}
 use Rattle.caf_program.specs.declared.parts.PrintR.{PrintR}
 use Rattle.caf_program.specs.declared.parts.PrintR.TheVariants as part
-use Rattle.caf_treestep.specs.Evaluated.{held_by_part, text_of, texts_of}
-use Rattle.caf_treestep.specs.Step.{added, given, printed, ran}
-use Rattle.caf_treestep.specs.declared.task.Task.{Task as TreeTask}
-use Rattle.caf_treestep.specs.declared.todo.Todo.{Todo}
+use Rattle.caf_source.specs.Evaluated.{held_by_part, texts_of}
+use Rattle.caf_source.specs.Step.{added, given, printed, ran}
+use Rattle.caf_source.specs.declared.todo.Todo.{Todo}
 use Rattle.caf_code.specs.Did.{Did, Goes, Stops, Fails, found, there}
 use Rattle.caf_code.specs.Step.{does, runs}
 use Rattle.caf_code.specs.Task.{Task, past}
-use Rattle.caf_code.specs.declared.instr.Instr.{Instr}
 use Rattle.caf_code.specs.declared.instr.Instr.TheVariants as instr
 use Rattle.caf_code.specs.declared.instr.Printed.TheVariants as row
 use Rattle.caf_code.specs.declared.task.Loop.{Loop}
@@ -30,9 +26,10 @@ use Rattle.caf_exprgen.specs.Leaves.{seen_by}
 use Rattle.caf_exprgen.specs.Placed.{HasAt}
 use Rattle.caf_codegen.specs.Agreement.{SameStep}
 use Rattle.caf_codegen.specs.StmtCode.{StandsAt, part_texts, parts_code}
-use Rattle.caf_codegen.proofs.Assign.{before}
+use Rattle.caf_codegen.proofs.Assigned.{before}
 use Rattle.caf_codegen.proofs.Follows.{Continues}
-use Rattle.caf_codegen.proofs.Related.{Around, AreCallers, IsEnd, Leads, Related, Setting, SameFor, code_at, found_ends, leads_last, leads_on, leads_value, ran_same, step_by, trap_same, tree_at}
+use Rattle.caf_codegen.proofs.Places.{stands_back}
+use Rattle.caf_codegen.proofs.Related.{Around, AreCallers, IsEnd, Leads, Related, Setting, SameFor, code_at, found_ends, leads_last, leads_on, leads_value, ran_same, step_by, trap_same}
 
 module _ (g : Setting) (w : Around) (locals : List ℤ) (loops : List Loop) (m : ImageMemory) where
   -- while a line is made
@@ -68,23 +65,31 @@ module _ (g : Setting) (w : Around) (locals : List ℤ) (loops : List Loop) (m :
       subst (λ x. Leads g (instr.Line ∷ []) (lined b x) (in_line a parts) m) (sym (append-nil parts))
       (leads_last g instr.Line (in_line a parts) m (lined b parts) (ap (λ n. lined n parts) (sym e)))
   parts_lead (part.Number e ∷ l) at k a b parts texts len =
-      let n = length (expr_code e at) in
+      let E = expr_code e at in
+      let n = length E in
+      let shown = instr.Print row.Number in
       let next = at + held_by_part (part.Number e) in
-      let js = parts_code l next k in
+      let js = parts_code l next (k + 0) in
       let rest = texts_of l next seen_here in
-      subst (λ d. Leads g (expr_code e at ++ (instr.Print row.Number ∷ js)) d (in_line a parts) m) (value_text (value_at e at seen_here) number_text rest b parts)
-      (leads_value g e at (instr.Print row.Number ∷ js) (in_line a parts) m (λ z. of_texts b (parts ++ number_text z ∷ []) rest) (λ z.
-      leads_on g (instr.Print row.Number) js (past n (z ∷ []) (in_line a parts)) (in_line (a + n + 1) (parts ++ number_text z ∷ [])) m m (of_texts b (parts ++ number_text z ∷ []) rest) refl refl
-      (parts_lead l next k (a + n + 1) b (parts ++ number_text z ∷ []) texts (omega (arith, len, length-append (expr_code e at) (instr.Print row.Number ∷ js))))))
+      let flat : (E ++ shown ∷ []) ++ js ≡ E ++ (shown ∷ js) = append_assoc E (shown ∷ []) js in
+      subst (λ is. Leads g is (of_texts b parts (texts_of (part.Number e ∷ l) at seen_here)) (in_line a parts) m) (sym flat)
+      (subst (λ d. Leads g (E ++ (shown ∷ js)) d (in_line a parts) m) (value_text (value_at e at seen_here) number_text rest b parts)
+      (leads_value g e at (shown ∷ js) (in_line a parts) m (λ z. of_texts b (parts ++ number_text z ∷ []) rest) (λ z.
+      leads_on g shown js (past n (z ∷ []) (in_line a parts)) (in_line (a + n + 1) (parts ++ number_text z ∷ [])) m m (of_texts b (parts ++ number_text z ∷ []) rest) refl refl
+      (parts_lead l next (k + 0) (a + n + 1) b (parts ++ number_text z ∷ []) (stands_back g.code.texts k [] (part_texts l) texts) (omega (arith, len, length-append (E ++ shown ∷ []) js, length-append E (shown ∷ [])))))))
   parts_lead (part.Logical e ∷ l) at k a b parts texts len =
-      let n = length (expr_code e at) in
+      let E = expr_code e at in
+      let n = length E in
+      let shown = instr.Print row.Logical in
       let next = at + held_by_part (part.Logical e) in
-      let js = parts_code l next k in
+      let js = parts_code l next (k + 0) in
       let rest = texts_of l next seen_here in
-      subst (λ d. Leads g (expr_code e at ++ (instr.Print row.Logical ∷ js)) d (in_line a parts) m) (value_text (value_at e at seen_here) logical_text rest b parts)
-      (leads_value g e at (instr.Print row.Logical ∷ js) (in_line a parts) m (λ z. of_texts b (parts ++ logical_text z ∷ []) rest) (λ z.
-      leads_on g (instr.Print row.Logical) js (past n (z ∷ []) (in_line a parts)) (in_line (a + n + 1) (parts ++ logical_text z ∷ [])) m m (of_texts b (parts ++ logical_text z ∷ []) rest) refl refl
-      (parts_lead l next k (a + n + 1) b (parts ++ logical_text z ∷ []) texts (omega (arith, len, length-append (expr_code e at) (instr.Print row.Logical ∷ js))))))
+      let flat : (E ++ shown ∷ []) ++ js ≡ E ++ (shown ∷ js) = append_assoc E (shown ∷ []) js in
+      subst (λ is. Leads g is (of_texts b parts (texts_of (part.Logical e ∷ l) at seen_here)) (in_line a parts) m) (sym flat)
+      (subst (λ d. Leads g (E ++ (shown ∷ js)) d (in_line a parts) m) (value_text (value_at e at seen_here) logical_text rest b parts)
+      (leads_value g e at (shown ∷ js) (in_line a parts) m (λ z. of_texts b (parts ++ logical_text z ∷ []) rest) (λ z.
+      leads_on g shown js (past n (z ∷ []) (in_line a parts)) (in_line (a + n + 1) (parts ++ logical_text z ∷ [])) m m (of_texts b (parts ++ logical_text z ∷ []) rest) refl refl
+      (parts_lead l next (k + 0) (a + n + 1) b (parts ++ logical_text z ∷ []) (stands_back g.code.texts k [] (part_texts l) texts) (omega (arith, len, length-append (E ++ shown ∷ []) js, length-append E (shown ∷ [])))))))
   parts_lead (part.Text text ∷ l) at k a b parts texts len =
       let next = at + held_by_part (part.Text text) in
       let js = parts_code l next (k + 1) in
