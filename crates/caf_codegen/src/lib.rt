@@ -15,3 +15,6 @@ mod statement;
 pub use law::made_codes_do_what_programs_say;
 pub use made::is_made;
 pub use program::compile;
+
+#[cfg(test)]
+mod tests;
