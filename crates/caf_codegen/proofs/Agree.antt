@@ -10,14 +10,14 @@ use Rattle.caf_base.specs.declared.fence.FenceClear.{FenceClear}
 use Rattle.caf_base.specs.declared.operation.EventAt.{EventAt}
 use Rattle.caf_program.specs.declared.program.Program.{Program}
 use Rattle.caf_program.specs.declared.program.SubR.{SubR}
-use Rattle.caf_source.specs.Step.{does_first, shipped_task as tree_shipped_task, step}
-use Rattle.caf_source.specs.Task.{all_of}
-use Rattle.caf_source.specs.declared.task.Frame.{Frame as TreeFrame}
-use Rattle.caf_source.specs.declared.task.Task.{Task as TreeTask}
-use Rattle.caf_source.specs.declared.task.Wait.{Wait as TreeWait}
-use Rattle.caf_source.specs.declared.task.Wait.TheVariants as awaited
-use Rattle.caf_source.specs.declared.todo.Todo.{Todo}
-use Rattle.caf_source.specs.declared.todo.Todo.TheVariants as item
+use Rattle.caf_treestep.specs.Step.{does_first, shipped_task as tree_shipped_task, step}
+use Rattle.caf_treestep.specs.Task.{all_of}
+use Rattle.caf_treestep.specs.declared.task.Frame.{Frame as TreeFrame}
+use Rattle.caf_treestep.specs.declared.task.Task.{Task as TreeTask}
+use Rattle.caf_treestep.specs.declared.task.Wait.{Wait as TreeWait}
+use Rattle.caf_treestep.specs.declared.task.Wait.TheVariants as awaited
+use Rattle.caf_treestep.specs.declared.todo.Todo.{Todo}
+use Rattle.caf_treestep.specs.declared.todo.Todo.TheVariants as item
 use Rattle.caf_code.specs.Calls.{leaves}
 use Rattle.caf_code.specs.Did.{Did, Stops, Blocks}
 use Rattle.caf_code.specs.Sound.{is_halt}

@@ -11,11 +11,11 @@ use Rattle.caf_program.specs.Expressions.{count_all}
 use Rattle.caf_program.specs.Value.{value_at}
 use Rattle.caf_program.specs.declared.expr.ExprR.{ExprR}
 use Rattle.caf_program.specs.declared.parts.VariableR.TheVariants as variable
-use Rattle.caf_source.specs.Step.{At, assigns, keeps, store, variables}
-use Rattle.caf_source.specs.declared.task.Task.{Task as TreeTask}
-use Rattle.caf_source.specs.declared.todo.Target.{Target}
-use Rattle.caf_source.specs.declared.todo.Target.TheVariants as target
-use Rattle.caf_source.specs.declared.todo.Todo.{Todo}
+use Rattle.caf_treestep.specs.Step.{At, assigns, keeps, store, variables}
+use Rattle.caf_treestep.specs.declared.task.Task.{Task as TreeTask}
+use Rattle.caf_treestep.specs.declared.todo.Target.{Target}
+use Rattle.caf_treestep.specs.declared.todo.Target.TheVariants as target
+use Rattle.caf_treestep.specs.declared.todo.Todo.{Todo}
 use Rattle.caf_code.specs.Did.{Did, Stops, found}
 use Rattle.caf_code.specs.Step.{runs}
 use Rattle.caf_code.specs.Task.{Task, past}

@@ -16,11 +16,11 @@ use Rattle.caf_program.specs.declared.stmt.StmtR.{StmtR}
 use Rattle.caf_program.specs.declared.stmt.StmtR.TheOpen.{StmtR-F}
 use Rattle.caf_program.specs.declared.stmt.StmtR.TheFolds.{fold-roll-StmtR}
 use Rattle.caf_program.specs.declared.stmt.StmtR.TheViews.{roll-StmtR}
-use Rattle.caf_source.specs.Step.{Variables, bounds_by, counted, counter, given, goes_on, keeps, kept, loop_begun, store, turned, turns}
-use Rattle.caf_source.specs.Task.{all_of}
-use Rattle.caf_source.specs.declared.bounds.Bounds.{Bounds}
-use Rattle.caf_source.specs.declared.todo.Todo.{Todo}
-use Rattle.caf_source.specs.declared.todo.Todo.TheVariants as item
+use Rattle.caf_treestep.specs.Step.{Variables, bounds_by, counted, counter, given, goes_on, keeps, kept, loop_begun, store, turned, turns}
+use Rattle.caf_treestep.specs.Task.{all_of}
+use Rattle.caf_treestep.specs.declared.bounds.Bounds.{Bounds}
+use Rattle.caf_treestep.specs.declared.todo.Todo.{Todo}
+use Rattle.caf_treestep.specs.declared.todo.Todo.TheVariants as item
 use Rattle.caf_code.specs.Did.{Did, Goes, Stops, Fails, answers, found}
 use Rattle.caf_code.specs.Flow.{enters, opens_loop, turns as code_turns}
 use Rattle.caf_code.specs.Step.{does, runs}

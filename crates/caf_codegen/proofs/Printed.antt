@@ -12,9 +12,9 @@ use Rattle.caf_program.specs.Seen.{Seen}
 use Rattle.caf_program.specs.Value.{value_at}
 use Rattle.caf_program.specs.declared.parts.PrintR.{PrintR}
 use Rattle.caf_program.specs.declared.parts.PrintR.TheVariants as part
-use Rattle.caf_source.specs.Evaluated.{held_by_part, texts_of}
-use Rattle.caf_source.specs.Step.{added, given, printed, ran}
-use Rattle.caf_source.specs.declared.todo.Todo.{Todo}
+use Rattle.caf_treestep.specs.Evaluated.{held_by_part, texts_of}
+use Rattle.caf_treestep.specs.Step.{added, given, printed, ran}
+use Rattle.caf_treestep.specs.declared.todo.Todo.{Todo}
 use Rattle.caf_code.specs.Did.{Did, Goes, Stops, Fails, found, there}
 use Rattle.caf_code.specs.Step.{does, runs}
 use Rattle.caf_code.specs.Task.{Task, past}

@@ -24,7 +24,7 @@ use Rattle.caf_program.specs.declared.stmt.StmtR.TheOpen.{StmtR-F}
 use Rattle.caf_program.specs.declared.stmt.StmtR.TheFolds.{ind-StmtR, fold-roll-StmtR, map-StmtR}
 use Rattle.caf_program.specs.declared.stmt.StmtR.TheViews.{roll-StmtR}
 use Rattle.caf_source.specs.Built.{all_true, is_part_plain, is_plain}
-use Rattle.caf_source.specs.Evaluated.{held_by_part}
+use Rattle.caf_treestep.specs.Evaluated.{held_by_part}
 use Rattle.caf_code.specs.Rules.{has_operands, is_data, is_data_kind, of_kind}
 use Rattle.caf_code.specs.Shapes.{Part, Shape, cells_of, next_shape, only_if}
 use Rattle.caf_code.specs.Step.{go_of}

@@ -1,5 +1,5 @@
 ghost use Rattle.std.specs.Prelude.{◌≡◌, ◌+◌, ◌++◌, [], ◌∷◌, length, OnOk, IfOk};
-ghost use Rattle.caf_source.specs.Evaluated.{held_by_part};
+ghost use Rattle.caf_treestep.specs.Evaluated.{held_by_part};
 ghost use Rattle.caf_codegen.specs.StmtCode.{part_code, part_text, parts_code, part_texts};
 
 use crate::emit::{gen_value, place, put};
