@@ -9,3 +9,6 @@ mod solo;
 
 pub use phase::Phase;
 pub use run::{Run, run_alone};
+
+#[cfg(test)]
+mod tests;
