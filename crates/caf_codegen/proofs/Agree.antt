@@ -34,9 +34,10 @@ use Rattle.caf_exprgen.specs.Words.{CodesLeaveValues}
 use Rattle.caf_codegen.specs.Agreement.{Agree, ArePastEnd, EndAlike, GoOnAlike, SameStep}
 use Rattle.caf_codegen.specs.Compiled.{Compiled, copied_dummies}
 use Rattle.caf_codegen.specs.ProgramCode.{main_code, main_size, program_code, sub_code, sub_entries, sub_size, subs_code, subs_texts}
-use Rattle.caf_codegen.specs.Simple.{are_subs_simple, is_block_simple, is_program_simple}
+use Rattle.caf_codegen.proofs.Fits.{are_subs_simple, is_block_simple}
 use Rattle.caf_codegen.specs.StmtCode.{StandsAt, block, codes, sizes, texts_in}
-use Rattle.caf_codegen.proofs.Follows.{Continues, IsSettledAt, Settles, at_close, at_ret, at_statement, at_turn, block_continues, goes_back, jumps, past_end, settle}
+use Rattle.caf_codegen.proofs.Called.{IsThere, SubsPlaced, return_steps, some_same}
+use Rattle.caf_codegen.proofs.Follows.{Continues, FrameEnd, IsMain, IsSettledAt, IsShip, OfCall, OfMain, OfShip, Settles, at_close, at_ret, at_return, at_statement, at_turn, block_continues, goes_back, jumps, past_end, settle}
 use Rattle.caf_codegen.proofs.Loops.{turn_steps}
 use Rattle.caf_codegen.proofs.Places.{has_all, has_behind, has_front, stands_all, stands_back, stands_front}
 use Rattle.caf_codegen.proofs.Related.{Around, AreCallers, Related, Setting, code_at, leads_last, step_by, tree_at}
@@ -47,31 +48,35 @@ use Rattle.caf_codegen.proofs.Both.{first_true, second_true}
 no_go : (code : Listing) (a b : ℕ) → slice_get code.instrs a ≡ Some (instr.Go b) → IsSettledAt code a → ⊥
 no_go code a b at still = let e : Some b ≡ None = sym (ap go_of at) ∙ still in cc
 
-no_below : (below : List TreeFrame) (calls : List OpenCall) → AreCallers below calls → below ≡ []
-no_below [] [] h = refl
-no_below [] (c ∷ calls) h = absurd h
-no_below (f ∷ below) [] h = absurd h
-no_below (f ∷ below) (c ∷ calls) h = absurd h
+no_below : (code : Listing) (p : Program) (end : FrameEnd) (below : List TreeFrame) (calls : List OpenCall) → IsMain end → AreCallers code p end below calls → below ≡ []
+no_below code p OfMain [] [] main h = refl
+no_below code p OfMain [] (c ∷ calls) main h = absurd h
+no_below code p OfMain (f ∷ below) [] main h = absurd h
+no_below code p OfMain (f ∷ below) (c ∷ calls) main h = absurd h
+no_below code p OfShip below calls main h = absurd main
+no_below code p (OfCall outs) below calls main h = absurd main
 
-no_calls : (below : List TreeFrame) (calls : List OpenCall) → AreCallers below calls → calls ≡ []
-no_calls [] [] h = refl
-no_calls [] (c ∷ calls) h = absurd h
-no_calls (f ∷ below) [] h = absurd h
-no_calls (f ∷ below) (c ∷ calls) h = absurd h
+no_calls : (code : Listing) (p : Program) (end : FrameEnd) (below : List TreeFrame) (calls : List OpenCall) → IsShip end → AreCallers code p end below calls → calls ≡ []
+no_calls code p OfShip [] [] ship h = refl
+no_calls code p OfShip [] (c ∷ calls) ship h = absurd h
+no_calls code p OfShip (f ∷ below) [] ship h = absurd h
+no_calls code p OfShip (f ∷ below) (c ∷ calls) ship h = absurd h
+no_calls code p OfMain below calls ship h = absurd ship
+no_calls code p (OfCall outs) below calls ship h = absurd ship
 
-module _ (laws : CodesLeaveValues) (none_left : NoneLeft) (p : Program) (code : Listing) where
+module _ (laws : CodesLeaveValues) (none_left : NoneLeft) (p : Program) (code : Listing) (placed : SubsPlaced code p) where
   -- past the end, or one Step that both take alike
   abbrev Next : Around → List ℤ → List Todo → List Loop → ℕ → Type 0
   Next w locals todo loops a = ArePastEnd code (tree_at w locals todo) (code_at w locals loops a)
-      ⊎ ((m : ImageMemory) (clear : FenceClear) → SameStep code (Related code) (does_first todo p.subs clear (tree_at w locals todo) m) (runs code clear (code_at w locals loops a) m))
+      ⊎ ((m : ImageMemory) (clear : FenceClear) → m.objects ≡ p.objects → SameStep code (Related code p) (does_first todo p.subs clear (tree_at w locals todo) m) (runs code clear (code_at w locals loops a) m))
 
-  related_at : (w : Around) (callers : AreCallers w.below w.calls) (locals : List ℤ) (todo : List Todo) (loops : List Loop) (a : ℕ) → Settles code a todo loops → Related code (tree_at w locals todo) (code_at w locals loops a)
+  related_at : (w : Around) (callers : AreCallers code p w.end w.below w.calls) (locals : List ℤ) (todo : List Todo) (loops : List Loop) (a : ℕ) → Settles code p w.end a todo loops → Related code p (tree_at w locals todo) (code_at w locals loops a)
   related_at w callers locals todo loops a there = record { around = w; locals = locals; todo = todo; loops = loops; address = a; tree = refl; task = refl; there = there; callers = callers }
 
-  next : (w : Around) (callers : AreCallers w.below w.calls) (locals : List ℤ) (todo : List Todo) (loops : List Loop) (a : ℕ) → Continues code a todo loops → IsSettledAt code a → Next w locals todo loops a
-  next w callers locals _ _ a (past_end _ at) still = inl (record { todo = refl; below = no_below w.below w.calls callers; awaited = refl; there = ap is_halt at; wait = refl })
-  next w callers locals _ _ a (at_close _ rest loops at more) still = inr (λ m clear.
-      let g : Setting = record { code = code; laws = laws; clear = clear } in
+  next : (w : Around) (callers : AreCallers code p w.end w.below w.calls) (locals : List ℤ) (todo : List Todo) (loops : List Loop) (a : ℕ) → Continues code p w.end a todo loops → IsSettledAt code a → Next w locals todo loops a
+  next w callers locals _ _ a (past_end _ main at) still = inl (record { todo = refl; below = no_below code p w.end w.below w.calls main callers; awaited = refl; there = ap is_halt at; wait = refl })
+  next w callers locals _ _ a (at_close _ rest loops at more) still = inr (λ m clear known.
+      let g : Setting = record { code = code; program = p; laws = laws; clear = clear } in
       let here = code_at w locals loops a in
       step_by g here m _ (instr.Close ∷ []) (Blocks need.Finish) refl (at, tt) (leads_last g instr.Close here m (Blocks need.Finish) refl) tt
       (record {
@@ -79,19 +84,21 @@ module _ (laws : CodesLeaveValues) (none_left : NoneLeft) (p : Program) (code : 
         memory = refl;
         tasks = (
           related_at w callers locals (item.Closes ∷ rest) loops a (at_close a rest loops at more, still),
-          related_at w callers locals rest loops (settled code.instrs (length code.instrs) (a + 1)) (settle laws code (a + 1) rest loops more (length code.instrs) (omega arith)),
+          related_at w callers locals rest loops (settled code.instrs (length code.instrs) (a + 1)) (settle laws code p w.end (a + 1) rest loops more (length code.instrs) (omega arith)),
         );
       }))
-  next w callers locals _ _ a (at_ret _ at) still = inr (λ m clear.
-      let g : Setting = record { code = code; laws = laws; clear = clear } in
+  next w callers locals _ _ a (at_ret _ ship at) still = inr (λ m clear known.
+      let g : Setting = record { code = code; program = p; laws = laws; clear = clear } in
       let here = code_at w locals [] a in
       let d : Did = Stops (effect.Ends w.done) here m in
-      step_by g here m _ (instr.Ret ∷ []) d refl (at, tt) (leads_last g instr.Ret here m d (ap (λ calls. leaves calls here m) (no_calls w.below w.calls callers))) tt
+      step_by g here m _ (instr.Ret ∷ []) d refl (at, tt) (leads_last g instr.Ret here m d (ap (λ calls. leaves calls here m) (no_calls code p w.end w.below w.calls ship callers))) tt
       (record { effect = refl; memory = refl; tasks = tt }))
-  next w callers locals _ _ a (at_statement _ k s rest loops simple has texts more) still = inr (λ m clear.
-      stmt_steps (record { code = code; laws = laws; clear = clear }) p.subs w callers locals loops a k m s rest none_left simple has texts more)
-  next w callers locals _ _ a (at_turn _ top k v step n body rest loops simple has under texts e more) still = inr (λ m clear.
-      turn_steps (record { code = code; laws = laws; clear = clear }) w callers m rest locals loops a top k v step n body simple has under texts e more)
+  next w callers locals _ _ a (at_return _ outs call at) still = inr (λ m clear known.
+      return_steps (record { code = code; program = p; laws = laws; clear = clear }) w.done w.below w.calls outs locals a m (subst (λ e. AreCallers code p e w.below w.calls) call callers) known at)
+  next w callers locals _ _ a (at_statement _ k s rest loops simple has texts more) still = inr (λ m clear known.
+      stmt_steps (record { code = code; program = p; laws = laws; clear = clear }) placed w callers locals loops a k m known s rest none_left simple has texts more)
+  next w callers locals _ _ a (at_turn _ top k v step n body rest loops simple has under texts e more) still = inr (λ m clear known.
+      turn_steps (record { code = code; program = p; laws = laws; clear = clear }) w callers m rest locals loops a top k v step n body simple has under texts e more)
   next w callers locals todo loops a (jumps _ b _ _ at lt more) still = absurd (no_go code a b at still)
   next w callers locals todo loops a (goes_back _ b _ _ at h more) still = absurd (no_go code a b at still)
 
@@ -114,59 +121,55 @@ module _ (laws : CodesLeaveValues) (none_left : NoneLeft) (p : Program) (code : 
   same_map : (P Q : TreeTask → Task → Type 0) → ((t : TreeTask) (c : Task) → P t c → Q t c) → (x : After TreeTask) (y : After Task) → SameStep code P x y → SameStep code Q x y
   same_map P Q f x y same = record { effect = same.effect; memory = same.memory; tasks = go_on_map P Q f x.effect x.task y.task same.tasks }
 
-  agrees : (k : ℕ) (t : TreeTask) (c : Task) → Related code t c → Agree p code k t c
+  agrees : (k : ℕ) (t : TreeTask) (c : Task) → Related code p t c → Agree p code k t c
   agrees zero t c r = tt
   agrees (suc k) t c r =
       let P : TreeTask → Task → Type 0 = λ t c. Agree p code (suc k) t c in
       subst (λ t. P t c) (sym r.tree) (subst (λ c. P (tree_at r.around r.locals r.todo) c) (sym r.task)
       (steps (next r.around r.callers r.locals r.todo r.loops r.address r.there.0 r.there.1) (agrees k)))
     where
-      steps : Next r.around r.locals r.todo r.loops r.address → ((t : TreeTask) (c : Task) → Related code t c → Agree p code k t c) → Agree p code (suc k) (tree_at r.around r.locals r.todo) (code_at r.around r.locals r.loops r.address)
+      steps : Next r.around r.locals r.todo r.loops r.address → ((t : TreeTask) (c : Task) → Related code p t c → Agree p code k t c) → Agree p code (suc k) (tree_at r.around r.locals r.todo) (code_at r.around r.locals r.loops r.address)
       steps (inl past) more = inl past
-      steps (inr same) more = inr (λ m clear objects. same_map (Related code) (Agree p code k) more _ _ (same m clear))
+      steps (inr same) more = inr (λ m clear objects. same_map (Related code p) (Agree p code k) more _ _ (same m clear objects))
 
   -- a task that begins where the code does what it has to do
-  pub begins : (k : ℕ) (locals : List ℤ) (todo : List Todo) (event : Option EventAt) (a : ℕ) → Continues code a todo []
-      → Agree p code k (tree_at (record { below = []; calls = []; done = event }) locals todo) (code_at (record { below = []; calls = []; done = event }) locals [] (settled code.instrs (length code.instrs) a))
-  begins k locals todo event a there =
-      agrees k _ _ (related_at (record { below = []; calls = []; done = event }) tt locals todo [] (settled code.instrs (length code.instrs) a) (settle laws code a todo [] there (length code.instrs) (omega arith)))
-
--- what a subroutine has in the code
-record IsThere (code : Listing) (f : SubR) (s : SubCode) : Type 0 where
-  first_text : ℕ
-  instrs : HasAt code.instrs s.address (sub_code f s.address first_text)
-  texts : StandsAt code.texts first_text (texts_in (codes f.body))
-  locals : s.locals ≡ length f.locals
-  simple : is_block_simple f.body ≡ true
+  pub begins : (k : ℕ) (end : FrameEnd) (locals : List ℤ) (todo : List Todo) (event : Option EventAt) (a : ℕ) → AreCallers code p end [] [] → Continues code p end a todo []
+      → Agree p code k (tree_at (record { below = []; calls = []; end = end; done = event }) locals todo) (code_at (record { below = []; calls = []; end = end; done = event }) locals [] (settled code.instrs (length code.instrs) a))
+  begins k end locals todo event a callers there =
+      agrees k _ _ (related_at (record { below = []; calls = []; end = end; done = event }) callers locals todo [] (settled code.instrs (length code.instrs) a) (settle laws code p end a todo [] there (length code.instrs) (omega arith)))
 
 pub sub_sized : (f : SubR) (a k : ℕ) → length (sub_code f a k) ≡ sub_size f
 sub_sized f a k = omega (arith, length-append (block (codes f.body) a k) (instr.Ret ∷ []), sized_block f.body a k)
 
-sub_there : (code : Listing) (subs : List SubR) (a k at : ℕ) (f : SubR) (s : SubCode) → are_subs_simple subs ≡ true → HasAt code.instrs a (subs_code subs a k) → StandsAt code.texts k (subs_texts subs)
-    → slice_get subs at ≡ Some f → slice_get (sub_entries subs a) at ≡ Some s → IsThere code f s
-sub_there code [] a k zero f s simple has texts e h = absurd (cc)
-sub_there code [] a k (suc at) f s simple has texts e h = absurd (cc)
-sub_there code (x ∷ subs) a k zero f s simple has texts e h =
+sub_there : (code : Listing) (p : Program) (subs : List SubR) (a k at : ℕ) (f : SubR) → are_subs_simple p.subs subs ≡ true → HasAt code.instrs a (subs_code subs a k) → StandsAt code.texts k (subs_texts subs)
+    → slice_get subs at ≡ Some f → (s : SubCode) × (slice_get (sub_entries subs a) at ≡ Some s) × IsThere code p f s
+sub_there code p [] a k zero f simple has texts e = absurd (cc)
+sub_there code p [] a k (suc at) f simple has texts e = absurd (cc)
+sub_there code p (x ∷ subs) a k zero f simple has texts e =
     let same : x ≡ f = cc in
-    let entry : record { address = a; dummies = copied_dummies x; locals = length x.locals } ≡ s = cc in
-    subst (λ y. IsThere code y s) same (subst (λ y. IsThere code x y) entry
-    (record {
-      first_text = k;
-      instrs = has_front code.instrs a (sub_code x a k) _ has;
-      texts = stands_front code.texts k (texts_in (codes x.body)) (subs_texts subs) texts;
-      locals = refl;
-      simple = first_true (is_block_simple x.body) (are_subs_simple subs) simple;
-    }))
-sub_there code (x ∷ subs) a k (suc at) f s simple has texts e h =
-    sub_there code subs (a + sub_size x) (k + length (texts_in (codes x.body))) at f s (second_true (is_block_simple x.body) (are_subs_simple subs) simple)
-    (has_behind code.instrs a (a + sub_size x) (sub_code x a k) _ (omega (arith, sub_sized x a k)) has) (stands_back code.texts k (texts_in (codes x.body)) (subs_texts subs) texts) e h
+    let entry : SubCode = record { address = a; dummies = copied_dummies x; locals = length x.locals } in (
+      entry,
+      refl,
+      subst (λ y. IsThere code p y entry) same
+          (record {
+            first_text = k;
+            instrs = has_front code.instrs a (sub_code x a k) _ has;
+            texts = stands_front code.texts k (texts_in (codes x.body)) (subs_texts subs) texts;
+            locals = refl;
+            dummies = refl;
+            simple = first_true (is_block_simple p.subs x.body) (are_subs_simple p.subs subs) simple;
+          }),
+    )
+sub_there code p (x ∷ subs) a k (suc at) f simple has texts e =
+    sub_there code p subs (a + sub_size x) (k + length (texts_in (codes x.body))) at f (second_true (is_block_simple p.subs x.body) (are_subs_simple p.subs subs) simple)
+    (has_behind code.instrs a (a + sub_size x) (sub_code x a k) _ (omega (arith, sub_sized x a k)) has) (stands_back code.texts k (texts_in (codes x.body)) (subs_texts subs) texts) e
 
 same_dummies : (subs : List SubR) (a : ℕ) → map (λ (s : SubCode). s.dummies) (sub_entries subs a) ≡ map copied_dummies subs
 same_dummies [] a = refl
 same_dummies (f ∷ subs) a = ap (λ l. copied_dummies f ∷ l) (same_dummies subs (a + sub_size f))
 
-pub compiled : CodesLeaveValues → NoneLeft → (p : Program) → is_program_simple p ≡ true → Compiled p (program_code p)
-compiled laws none_left p simple =
+pub compiled : CodesLeaveValues → NoneLeft → (p : Program) → is_block_simple p.subs p.body ≡ true → are_subs_simple p.subs p.subs ≡ true → Compiled p (program_code p)
+compiled laws none_left p simple simple_subs =
     let code = program_code p in
     let body = p.body in
     let main = main_code body in
@@ -178,23 +181,26 @@ compiled laws none_left p simple =
     let statements = block (codes body) 0 0 in
     let q = sizes (codes body) in
     let ends = has_behind code.instrs 0 q statements (instr.Close ∷ instr.Halt ∷ []) (omega (arith, sized_block body 0 0)) has_main in
-    let there : Continues code 0 (all_of body ++ (item.Closes ∷ [])) [] =
-    block_continues laws code body (item.Closes ∷ []) [] 0 q 0 (first_true (is_block_simple body) (are_subs_simple p.subs) simple) (omega arith) (has_front code.instrs 0 statements _ has_main)
-    (stands_front code.texts 0 texts (subs_texts p.subs) (stands_all (texts ++ subs_texts p.subs) [])) (at_close q [] [] ends.0 (past_end (q + 1) ends.1.0)) in
+    let there : Continues code p OfMain 0 (all_of body ++ (item.Closes ∷ [])) [] =
+    block_continues laws code p OfMain body (item.Closes ∷ []) [] 0 q 0 simple (omega arith) (has_front code.instrs 0 statements _ has_main)
+    (stands_front code.texts 0 texts (subs_texts p.subs) (stands_all (texts ++ subs_texts p.subs) [])) (at_close q [] [] ends.0 (past_end (q + 1) tt ends.1.0)) in
     let main_sized : n ≡ 0 + length main = omega (arith, length-append statements (instr.Close ∷ instr.Halt ∷ []), sized_block body 0 0) in
     let has_subs = has_behind code.instrs 0 n main subs main_sized has in
     let subs_stand = subst (λ k. StandsAt code.texts k (subs_texts p.subs)) (omega arith) (stands_back code.texts 0 texts (subs_texts p.subs) (stands_all (texts ++ subs_texts p.subs) [])) in
+    let placed : SubsPlaced code p = λ at f e. sub_there code p p.subs n (length texts) at f simple_subs has_subs subs_stand e in
     record {
       objects = refl;
       subs = same_dummies p.subs n;
-      main = λ k. begins laws none_left p code k [] (all_of body ++ (item.Closes ∷ [])) None 0 there;
+      main = λ k. begins laws none_left p code placed k OfMain [] (all_of body ++ (item.Closes ∷ [])) None 0 tt there;
       shipped = λ k at f s arguments event e h len.
-          let x = sub_there code p.subs n (length texts) at f s (second_true (is_block_simple body) (are_subs_simple p.subs) simple) has_subs subs_stand e h in
+          let found = placed at f e in
+          let same : found.0 ≡ s = some_same found.0 s (sym found.1 ∙ h) in
+          let x = subst (λ s. IsThere code p f s) same found.2 in
           let statements = block (codes f.body) s.address x.first_text in
           let q = s.address + sizes (codes f.body) in
           let ret = has_behind code.instrs s.address q statements (instr.Ret ∷ []) (omega (arith, sized_block f.body s.address x.first_text)) x.instrs in
-          let there : Continues code s.address (all_of f.body ++ (item.Ends ∷ [])) [] =
-          block_continues laws code f.body (item.Ends ∷ []) [] s.address q x.first_text x.simple refl (has_front code.instrs s.address statements _ x.instrs) x.texts (at_ret q ret.0) in
+          let there : Continues code p OfShip s.address (all_of f.body ++ (item.Ends ∷ [])) [] =
+          block_continues laws code p OfShip f.body (item.Ends ∷ []) [] s.address q x.first_text x.simple refl (has_front code.instrs s.address statements _ x.instrs) x.texts (at_ret q tt ret.0) in
           subst (λ n. Agree p code k (tree_shipped_task f arguments event) (record (shipped_task code s arguments event) { frame = record (shipped_task code s arguments event).frame { cells = arguments ++ replicate n (pos 0) } })) (sym x.locals)
-          (begins laws none_left p code k (arguments ++ replicate (length f.locals) (pos 0)) (all_of f.body ++ (item.Ends ∷ [])) event s.address there);
+          (begins laws none_left p code placed k OfShip (arguments ++ replicate (length f.locals) (pos 0)) (all_of f.body ++ (item.Ends ∷ [])) event s.address tt there);
     }

@@ -35,7 +35,7 @@ use Rattle.caf_codegen.proofs.Related.{Around, AreCallers, Related, Setting, Sam
 abbrev pub before : Around → List ℤ → Todo → List Todo → ImageMemory → At
 before w locals s rest m = record { task = tree_at w locals (s ∷ rest); memory = m; rest = rest }
 
-module _ (g : Setting) (w : Around) (callers : AreCallers w.below w.calls) (locals : List ℤ) (loops : List Loop) (a : ℕ) (m : ImageMemory) (s : Todo) (rest : List Todo) where
+module _ (g : Setting) (w : Around) (callers : AreCallers g.code g.program w.end w.below w.calls) (locals : List ℤ) (loops : List Loop) (a : ℕ) (m : ImageMemory) (s : Todo) (rest : List Todo) where
   abbrev here : Task
   here = code_at w locals loops a
 
@@ -44,20 +44,20 @@ module _ (g : Setting) (w : Around) (callers : AreCallers w.below w.calls) (loca
 
   -- the code's Step is that of the tree
   abbrev Same : After TreeTask → Type 0
-  Same x = SameStep g.code (Related g.code) x (runs g.code g.clear here m)
+  Same x = SameStep g.code (Related g.code g.program) x (runs g.code g.clear here m)
 
   -- a value that goes into the memory
-  stored_same : (t : Target) (z : ℤ) (b : ℕ) (r : Result ImageMemory Trap) → Continues g.code b rest loops
+  stored_same : (t : Target) (z : ℤ) (b : ℕ) (r : Result ImageMemory Trap) → Continues g.code g.program w.end b rest loops
       → SameFor g here m (keeps (bind r (λ n. Ok (record (variables at) { memory = n }))) rest at) (found r m (λ n. Stops effect.Ran (code_at w locals loops b) n))
   stored_same t z b (Err trap) there = trap_same g here at trap
   stored_same t z b (Ok n) there = ran_same g here m n w locals rest loops b callers there
 
-  scalar_same : (o b : ℕ) (v : Answer) → Continues g.code b rest loops
+  scalar_same : (o b : ℕ) (v : Answer) → Continues g.code g.program w.end b rest loops
       → SameFor g here m (keeps (bind {A = Target × ℤ} (bind v (λ z. Ok (target.Scalar o, z))) (λ p. store p.0 p.1 (variables at))) rest at) (found v m (λ z. found (written m o (pos 1) z) m (λ n. Stops effect.Ran (code_at w locals loops b) n)))
   scalar_same o b (Err trap) there = trap_same g here at trap
   scalar_same o b (Ok z) there = stored_same (target.Scalar o) z b (written m o (pos 1) z) there
 
-  pub scalar_steps : (o : ℕ) (e : ExprR) → HasAt g.code.instrs a (assign_code (variable.Scalar o) e) → Continues g.code (a + length (assign_code (variable.Scalar o) e)) rest loops → Same (assigns (variable.Scalar o) e at)
+  pub scalar_steps : (o : ℕ) (e : ExprR) → HasAt g.code.instrs a (assign_code (variable.Scalar o) e) → Continues g.code g.program w.end (a + length (assign_code (variable.Scalar o) e)) rest loops → Same (assigns (variable.Scalar o) e at)
   scalar_steps o e has there =
       let n = length (expr_code e 0) in
       let v = value_at e 0 (seen_by here m) in
@@ -71,14 +71,14 @@ module _ (g : Setting) (w : Around) (callers : AreCallers w.below w.calls) (loca
       leads_found g (instr.Store reach.Scalar o) (instr.Next ∷ []) (past n (z ∷ []) here) m (written m o (pos 1) z) (λ x. u) (λ x. x) (λ x. Stops effect.Ran (code_at w locals loops b) x) refl (λ x. refl)
       (λ x. leads_last g instr.Next u x (Stops effect.Ran (code_at w locals loops b) x) refl)))
       (found_ends v m d (λ z. found_ends (written m o (pos 1) z) m _ (λ x. tt)))
-      (scalar_same o b v (subst (λ k. Continues g.code k rest loops) len there))
+      (scalar_same o b v (subst (λ k. Continues g.code g.program w.end k rest loops) len there))
 
-  local_same : (k b : ℕ) (v : Answer) → Continues g.code b rest loops
+  local_same : (k b : ℕ) (v : Answer) → Continues g.code g.program w.end b rest loops
       → SameFor g here m (keeps (bind {A = Target × ℤ} (bind v (λ z. Ok (target.Local k, z))) (λ p. store p.0 p.1 (variables at))) rest at) (found v m (λ z. Stops effect.Ran (code_at w (slice_set locals k z) loops b) m))
   local_same k b (Err trap) there = trap_same g here at trap
   local_same k b (Ok z) there = ran_same g here m m w (slice_set locals k z) rest loops b callers there
 
-  pub local_steps : (k : ℕ) (e : ExprR) → HasAt g.code.instrs a (assign_code (variable.Local k) e) → Continues g.code (a + length (assign_code (variable.Local k) e)) rest loops → Same (assigns (variable.Local k) e at)
+  pub local_steps : (k : ℕ) (e : ExprR) → HasAt g.code.instrs a (assign_code (variable.Local k) e) → Continues g.code g.program w.end (a + length (assign_code (variable.Local k) e)) rest loops → Same (assigns (variable.Local k) e at)
   local_steps k e has there =
       let n = length (expr_code e 0) in
       let v = value_at e 0 (seen_by here m) in
@@ -91,16 +91,16 @@ module _ (g : Setting) (w : Around) (callers : AreCallers w.below w.calls) (loca
       (leads_value g e 0 tail here m d (λ z.
       leads_on g (instr.Cell cell.Set k) (instr.Next ∷ []) (past n (z ∷ []) here) (u z) m m (d z) refl refl (leads_last g instr.Next (u z) m (d z) refl)))
       (found_ends v m d (λ z. tt))
-      (local_same k b v (subst (λ k. Continues g.code k rest loops) len there))
+      (local_same k b v (subst (λ k. Continues g.code g.program w.end k rest loops) len there))
 
-  element_same : (o b : ℕ) (i v : Answer) → Continues g.code b rest loops
+  element_same : (o b : ℕ) (i v : Answer) → Continues g.code g.program w.end b rest loops
       → SameFor g here m (keeps (bind {A = Target × ℤ} (bind (bind i (λ x. Ok (target.Element o x))) (λ t. bind v (λ z. Ok (t, z)))) (λ p. store p.0 p.1 (variables at))) rest at)
       (found i m (λ x. found v m (λ z. found (written m o x z) m (λ n. Stops effect.Ran (code_at w locals loops b) n))))
   element_same o b (Err trap) v there = trap_same g here at trap
   element_same o b (Ok x) (Err trap) there = trap_same g here at trap
   element_same o b (Ok x) (Ok z) there = stored_same (target.Element o x) z b (written m o x z) there
 
-  pub element_steps : (o : ℕ) (i e : ExprR) → HasAt g.code.instrs a (assign_code (variable.Element o i) e) → Continues g.code (a + length (assign_code (variable.Element o i) e)) rest loops → Same (assigns (variable.Element o i) e at)
+  pub element_steps : (o : ℕ) (i e : ExprR) → HasAt g.code.instrs a (assign_code (variable.Element o i) e) → Continues g.code g.program w.end (a + length (assign_code (variable.Element o i) e)) rest loops → Same (assigns (variable.Element o i) e at)
   element_steps o i e has there =
       let k = 0 + count_all (i ∷ []) in
       let I = expr_code i 0 in
@@ -118,4 +118,4 @@ module _ (g : Setting) (w : Around) (callers : AreCallers w.below w.calls) (loca
       leads_found g (instr.Store reach.Element o) (instr.Next ∷ []) (past (length E) (z ∷ x ∷ []) (past (length I) (x ∷ []) here)) m (written m o x z) (λ n. c) (λ n. n) (λ n. Stops effect.Ran (code_at w locals loops b) n) refl (λ n. refl)
       (λ n. leads_last g instr.Next c n (Stops effect.Ran (code_at w locals loops b) n) refl))))
       (found_ends u m _ (λ x. found_ends v m _ (λ z. found_ends (written m o x z) m _ (λ n. tt))))
-      (element_same o b u v (subst (λ k. Continues g.code k rest loops) len there))
+      (element_same o b u v (subst (λ k. Continues g.code g.program w.end k rest loops) len there))

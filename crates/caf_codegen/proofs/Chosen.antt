@@ -20,7 +20,7 @@ use Rattle.caf_exprgen.specs.ExprCode.{expr_code}
 use Rattle.caf_exprgen.specs.Leaves.{seen_by}
 use Rattle.caf_exprgen.specs.Placed.{HasAt}
 use Rattle.caf_codegen.specs.Agreement.{SameStep}
-use Rattle.caf_codegen.specs.Simple.{is_block_simple}
+use Rattle.caf_codegen.proofs.Fits.{is_block_simple}
 use Rattle.caf_codegen.specs.StmtCode.{StandsAt, block, codes, if_code, sizes, texts_in}
 use Rattle.caf_codegen.proofs.Assigned.{before}
 use Rattle.caf_codegen.proofs.Follows.{Continues, block_continues, jumps}
@@ -28,7 +28,7 @@ use Rattle.caf_codegen.proofs.Places.{has_back, has_behind, has_front, stands_ba
 use Rattle.caf_codegen.proofs.Related.{Around, AreCallers, Related, Setting, SameFor, code_at, found_ends, found_same, leads_last, leads_value, ran_same, step_by}
 use Rattle.caf_codegen.proofs.Sized.{sized_block}
 
-module _ (g : Setting) (w : Around) (callers : AreCallers w.below w.calls) (locals : List ℤ) (loops : List Loop) (a k : ℕ) (m : ImageMemory) (s : Todo) (rest : List Todo) (e : ExprR) (x y : List StmtR) where
+module _ (g : Setting) (w : Around) (callers : AreCallers g.code g.program w.end w.below w.calls) (locals : List ℤ) (loops : List Loop) (a k : ℕ) (m : ImageMemory) (s : Todo) (rest : List Todo) (e : ExprR) (x y : List StmtR) where
   abbrev first : ℕ
   first = a + length (expr_code e 0) + 1
 
@@ -45,21 +45,21 @@ module _ (g : Setting) (w : Around) (callers : AreCallers w.below w.calls) (loca
   branches = block (codes x) first k ++ (instr.Go end ∷ block (codes y) second (k + length (texts_in (codes x))))
 
   -- the block that comes next
-  block_same : is_block_simple x ≡ true → is_block_simple y ≡ true → HasAt g.code.instrs first branches → StandsAt g.code.texts k (texts_in (codes x) ++ texts_in (codes y)) → Continues g.code end rest loops → (fails : Bool)
+  block_same : is_block_simple g.program.subs x ≡ true → is_block_simple g.program.subs y ≡ true → HasAt g.code.instrs first branches → StandsAt g.code.texts k (texts_in (codes x) ++ texts_in (codes y)) → Continues g.code g.program w.end end rest loops → (fails : Bool)
       → SameFor g (code_at w locals loops a) m (goes_on (all_of (if fails then y else x) ++ rest) (before w locals s rest m)) (Stops effect.Ran (code_at w locals loops (if fails then second else first)) m)
   block_same simple_x simple_y has texts more true =
       let jump = has_behind g.code.instrs first behind_first (block (codes x) first k) (instr.Go end ∷ block (codes y) second (k + length (texts_in (codes x)))) (omega (arith, sized_block x first k)) has in
       ran_same g (code_at w locals loops a) m m w locals (all_of y ++ rest) loops second callers
-      (block_continues g.laws g.code y rest loops second end (k + length (texts_in (codes x))) simple_y refl jump.1 (stands_back g.code.texts k (texts_in (codes x)) (texts_in (codes y)) texts) more)
+      (block_continues g.laws g.code g.program w.end y rest loops second end (k + length (texts_in (codes x))) simple_y refl jump.1 (stands_back g.code.texts k (texts_in (codes x)) (texts_in (codes y)) texts) more)
   block_same simple_x simple_y has texts more false =
       let jump = has_behind g.code.instrs first behind_first (block (codes x) first k) (instr.Go end ∷ block (codes y) second (k + length (texts_in (codes x)))) (omega (arith, sized_block x first k)) has in
       ran_same g (code_at w locals loops a) m m w locals (all_of x ++ rest) loops first callers
-      (block_continues g.laws g.code x rest loops first behind_first k simple_x refl (has_front g.code.instrs first (block (codes x) first k) _ has) (stands_front g.code.texts k (texts_in (codes x)) (texts_in (codes y)) texts)
+      (block_continues g.laws g.code g.program w.end x rest loops first behind_first k simple_x refl (has_front g.code.instrs first (block (codes x) first k) _ has) (stands_front g.code.texts k (texts_in (codes x)) (texts_in (codes y)) texts)
       (jumps behind_first end rest loops jump.0 (omega arith) more))
 
-  pub if_steps : is_block_simple x ≡ true → is_block_simple y ≡ true → HasAt g.code.instrs a ((if_code (expr_code e 0) (codes x) (codes y)).code a k) → StandsAt g.code.texts k (texts_in (codes x) ++ texts_in (codes y))
-      → Continues g.code (a + (if_code (expr_code e 0) (codes x) (codes y)).size) rest loops
-      → SameStep g.code (Related g.code) (given (value_at e 0 (seen_by (code_at w locals loops a) m)) (before w locals s rest m) (λ z. goes_on (all_of (if is_zero z then y else x) ++ rest) (before w locals s rest m))) (runs g.code g.clear (code_at w locals loops a) m)
+  pub if_steps : is_block_simple g.program.subs x ≡ true → is_block_simple g.program.subs y ≡ true → HasAt g.code.instrs a ((if_code (expr_code e 0) (codes x) (codes y)).code a k) → StandsAt g.code.texts k (texts_in (codes x) ++ texts_in (codes y))
+      → Continues g.code g.program w.end (a + (if_code (expr_code e 0) (codes x) (codes y)).size) rest loops
+      → SameStep g.code (Related g.code g.program) (given (value_at e 0 (seen_by (code_at w locals loops a) m)) (before w locals s rest m) (λ z. goes_on (all_of (if is_zero z then y else x) ++ rest) (before w locals s rest m))) (runs g.code g.clear (code_at w locals loops a) m)
   if_steps simple_x simple_y has texts more =
       let here = code_at w locals loops a in
       let E = expr_code e 0 in
@@ -74,4 +74,4 @@ module _ (g : Setting) (w : Around) (callers : AreCallers w.below w.calls) (loca
       (leads_value g e 0 (test ∷ []) here m d (λ z. leads_last g test (past n (z ∷ []) here) m (d z) refl))
       (found_ends v m d (λ z. tt))
       (found_same g here (before w locals s rest m) v (λ z. goes_on (all_of (if is_zero z then y else x) ++ rest) (before w locals s rest m)) d
-      (λ z. block_same simple_x simple_y behind texts (subst (λ b. Continues g.code b rest loops) at_end more) (is_zero z)))
+      (λ z. block_same simple_x simple_y behind texts (subst (λ b. Continues g.code g.program w.end b rest loops) at_end more) (is_zero z)))

@@ -1,4 +1,5 @@
 pub mod Both
+pub mod Fits
 pub mod Places
 pub mod Sized
 pub mod Still
@@ -8,6 +9,7 @@ pub mod Assigned
 pub mod Printed
 pub mod Chosen
 pub mod Loops
+pub mod Called
 pub mod Steps
 pub mod Agree
 pub mod Runs

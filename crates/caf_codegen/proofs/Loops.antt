@@ -10,6 +10,7 @@ use Rattle.caf_base.specs.declared.trap.Trap.{Trap}
 use Rattle.caf_base.specs.declared.trap.Trap.TheVariants as trap
 use Rattle.caf_program.specs.Value.{count, value_at}
 use Rattle.caf_program.specs.declared.expr.ExprR.{ExprR}
+use Rattle.caf_program.specs.declared.program.SubR.{SubR}
 use Rattle.caf_program.specs.declared.stmt.LoopVariableR.{LoopVariableR}
 use Rattle.caf_program.specs.declared.stmt.LoopVariableR.TheVariants as loop_variable
 use Rattle.caf_program.specs.declared.stmt.StmtR.{StmtR}
@@ -32,7 +33,7 @@ use Rattle.caf_exprgen.specs.ExprCode.{expr_code}
 use Rattle.caf_exprgen.specs.Leaves.{seen_by}
 use Rattle.caf_exprgen.specs.Placed.{HasAt}
 use Rattle.caf_codegen.specs.Agreement.{SameStep}
-use Rattle.caf_codegen.specs.Simple.{is_block_simple, is_simple, simple_layer}
+use Rattle.caf_codegen.proofs.Fits.{is_block_simple, is_simple, simple_layer}
 use Rattle.caf_codegen.specs.StmtCode.{StandsAt, StmtCode, block, bounds_code, codes, do_code, load_of, sizes, stmt_code, stmt_layer, store_of, texts_in, turn_code, while_code}
 use Rattle.caf_codegen.proofs.Assigned.{before}
 use Rattle.caf_codegen.proofs.Follows.{Continues, IsSettledAt, at_statement, at_turn, block_continues, goes_back, still_at}
@@ -44,19 +45,19 @@ use Rattle.caf_codegen.proofs.Still.{expr_still}
 code_While : (line : ℕ) (e : ExprR) (x : List StmtR) → stmt_code (roll-StmtR (StmtR-F.While line e x)) ≡ while_code (expr_code e 0) (codes x)
 code_While line e x = fold-roll-StmtR StmtCode stmt_layer (StmtR-F.While line e x)
 
-simple_While : (line : ℕ) (e : ExprR) (x : List StmtR) → is_simple (roll-StmtR (StmtR-F.While line e x)) ≡ simple_layer (StmtR-F.While line e (map is_simple x))
-simple_While line e x = fold-roll-StmtR Bool simple_layer (StmtR-F.While line e x)
+simple_While : (subs : List SubR) (line : ℕ) (e : ExprR) (x : List StmtR) → is_simple subs (roll-StmtR (StmtR-F.While line e x)) ≡ simple_layer subs (StmtR-F.While line e (map (is_simple subs) x))
+simple_While subs line e x = fold-roll-StmtR Bool (simple_layer subs) (StmtR-F.While line e x)
 
-module _ (g : Setting) (w : Around) (callers : AreCallers w.below w.calls) (m : ImageMemory) (rest : List Todo) where
+module _ (g : Setting) (w : Around) (callers : AreCallers g.code g.program w.end w.below w.calls) (m : ImageMemory) (rest : List Todo) where
   -- a further iteration, or the rest
-  while_same : (s : Todo) (locals : List ℤ) (loops : List Loop) (a k line : ℕ) (e : ExprR) (x : List StmtR) → simple_layer (StmtR-F.While line e (map is_simple x)) ≡ true → is_block_simple x ≡ true
-      → HasAt g.code.instrs a ((while_code (expr_code e 0) (codes x)).code a k) → StandsAt g.code.texts k (texts_in (codes x)) → Continues g.code (a + (while_code (expr_code e 0) (codes x)).size) rest loops → (fails : Bool)
+  while_same : (s : Todo) (locals : List ℤ) (loops : List Loop) (a k line : ℕ) (e : ExprR) (x : List StmtR) → simple_layer g.program.subs (StmtR-F.While line e (map (is_simple g.program.subs) x)) ≡ true → is_block_simple g.program.subs x ≡ true
+      → HasAt g.code.instrs a ((while_code (expr_code e 0) (codes x)).code a k) → StandsAt g.code.texts k (texts_in (codes x)) → Continues g.code g.program w.end (a + (while_code (expr_code e 0) (codes x)).size) rest loops → (fails : Bool)
       → SameFor g (code_at w locals loops a) m
       (goes_on (if fails then rest else all_of x ++ (item.Does (roll-StmtR (StmtR-F.While line e x)) ∷ rest)) (before w locals s rest m))
       (Stops effect.Ran (code_at w locals loops (if fails then a + length (expr_code e 0) + 1 + sizes (codes x) + 1 else a + length (expr_code e 0) + 1)) m)
   while_same s locals loops a k line e x simple simple_x has texts more true =
       let at_end : a + (length (expr_code e 0) + 1 + sizes (codes x) + 1) ≡ a + length (expr_code e 0) + 1 + sizes (codes x) + 1 = omega arith in
-      ran_same g (code_at w locals loops a) m m w locals rest loops _ callers (subst (λ b. Continues g.code b rest loops) at_end more)
+      ran_same g (code_at w locals loops a) m m w locals rest loops _ callers (subst (λ b. Continues g.code g.program w.end b rest loops) at_end more)
   while_same s locals loops a k line e x simple simple_x has texts more false =
       let E = expr_code e 0 in
       let again = roll-StmtR (StmtR-F.While line e x) in
@@ -68,15 +69,15 @@ module _ (g : Setting) (w : Around) (callers : AreCallers w.below w.calls) (m : 
       let still : IsSettledAt g.code a = still_at g.code a E (expr_still g.laws e 0) (has_front g.code.instrs a E _ has) in
       let has' = subst (λ c. HasAt g.code.instrs a (c.code a k)) (sym (code_While line e x)) has in
       let texts' = subst (λ c. StandsAt g.code.texts k c.texts) (sym (code_While line e x)) texts in
-      let more' = subst (λ c. Continues g.code (a + c.size) rest loops) (sym (code_While line e x)) more in
-      let back : Continues g.code behind (item.Does again ∷ rest) loops =
-      goes_back behind a (item.Does again ∷ rest) loops go.0 still (at_statement a k again rest loops (simple_While line e x ∙ simple) has' texts' more') in
+      let more' = subst (λ c. Continues g.code g.program w.end (a + c.size) rest loops) (sym (code_While line e x)) more in
+      let back : Continues g.code g.program w.end behind (item.Does again ∷ rest) loops =
+      goes_back behind a (item.Does again ∷ rest) loops go.0 still (at_statement a k again rest loops (simple_While g.program.subs line e x ∙ simple) has' texts' more') in
       ran_same g (code_at w locals loops a) m m w locals (all_of x ++ (item.Does again ∷ rest)) loops first callers
-      (block_continues g.laws g.code x (item.Does again ∷ rest) loops first behind k simple_x refl (has_front g.code.instrs first ours _ inside) texts back)
+      (block_continues g.laws g.code g.program w.end x (item.Does again ∷ rest) loops first behind k simple_x refl (has_front g.code.instrs first ours _ inside) texts back)
 
-  pub while_steps : (s : Todo) (locals : List ℤ) (loops : List Loop) (a k line : ℕ) (e : ExprR) (x : List StmtR) → simple_layer (StmtR-F.While line e (map is_simple x)) ≡ true → is_block_simple x ≡ true
-      → HasAt g.code.instrs a ((while_code (expr_code e 0) (codes x)).code a k) → StandsAt g.code.texts k (texts_in (codes x)) → Continues g.code (a + (while_code (expr_code e 0) (codes x)).size) rest loops
-      → SameStep g.code (Related g.code)
+  pub while_steps : (s : Todo) (locals : List ℤ) (loops : List Loop) (a k line : ℕ) (e : ExprR) (x : List StmtR) → simple_layer g.program.subs (StmtR-F.While line e (map (is_simple g.program.subs) x)) ≡ true → is_block_simple g.program.subs x ≡ true
+      → HasAt g.code.instrs a ((while_code (expr_code e 0) (codes x)).code a k) → StandsAt g.code.texts k (texts_in (codes x)) → Continues g.code g.program w.end (a + (while_code (expr_code e 0) (codes x)).size) rest loops
+      → SameStep g.code (Related g.code g.program)
       (given (value_at e 0 (seen_by (code_at w locals loops a) m)) (before w locals s rest m)
       (λ z. goes_on (if is_zero z then rest else all_of x ++ (item.Does (roll-StmtR (StmtR-F.While line e x)) ∷ rest)) (before w locals s rest m)))
       (runs g.code g.clear (code_at w locals loops a) m)
@@ -122,15 +123,15 @@ module _ (g : Setting) (w : Around) (callers : AreCallers w.below w.calls) (m : 
   after_turn zero step loops top out vs = Stops effect.Ran (code_at w vs.locals loops out) vs.memory
   after_turn (suc n) step loops top out vs = Stops effect.Ran (code_at w vs.locals (record { iterations = suc n; step = step } ∷ loops) top) vs.memory
 
-  turns_same : (c : Task) (s : Todo) (locals : List ℤ) (v : LoopVariableR) (step : ℤ) (x : List StmtR) (loops : List Loop) (top k out : ℕ) → is_block_simple x ≡ true
-      → HasAt g.code.instrs top (block (codes x) top k) → StandsAt g.code.texts k (texts_in (codes x)) → HasAt g.code.instrs (top + sizes (codes x)) (turn_code v top) → out ≡ top + sizes (codes x) + 5 → Continues g.code out rest loops
+  turns_same : (c : Task) (s : Todo) (locals : List ℤ) (v : LoopVariableR) (step : ℤ) (x : List StmtR) (loops : List Loop) (top k out : ℕ) → is_block_simple g.program.subs x ≡ true
+      → HasAt g.code.instrs top (block (codes x) top k) → StandsAt g.code.texts k (texts_in (codes x)) → HasAt g.code.instrs (top + sizes (codes x)) (turn_code v top) → out ≡ top + sizes (codes x) + 5 → Continues g.code g.program w.end out rest loops
       → (vs : Variables) (n : ℕ) → SameFor g c m (kept vs (turns n v step x rest) (before w locals s rest m)) (after_turn n step loops top out vs)
   turns_same c s locals v step x loops top k out simple has texts turn e more vs zero = ran_same g c m vs.memory w vs.locals rest loops out callers more
   turns_same c s locals v step x loops top k out simple has texts turn e more vs (suc n) =
       let behind = top + sizes (codes x) in
       let inner : List Loop = record { iterations = suc n; step = step } ∷ loops in
-      let next : Continues g.code behind (item.Turns v step (suc n) x ∷ rest) inner = at_turn behind top k v step (suc n) x rest loops simple turn has texts refl (subst (λ b. Continues g.code b rest loops) e more) in
-      ran_same g c m vs.memory w vs.locals (all_of x ++ (item.Turns v step (suc n) x ∷ rest)) inner top callers (block_continues g.laws g.code x (item.Turns v step (suc n) x ∷ rest) inner top behind k simple refl has texts next)
+      let next : Continues g.code g.program w.end behind (item.Turns v step (suc n) x ∷ rest) inner = at_turn behind top k v step (suc n) x rest loops simple turn has texts refl (subst (λ b. Continues g.code g.program w.end b rest loops) e more) in
+      ran_same g c m vs.memory w vs.locals (all_of x ++ (item.Turns v step (suc n) x ∷ rest)) inner top callers (block_continues g.laws g.code g.program w.end x (item.Turns v step (suc n) x ∷ rest) inner top behind k simple refl has texts next)
 
   after_ends : (n : ℕ) (step : ℤ) (loops : List Loop) (top out : ℕ) (vs : Variables) → IsEnd (after_turn n step loops top out vs)
   after_ends zero step loops top out vs = tt
@@ -161,9 +162,9 @@ module _ (g : Setting) (w : Around) (callers : AreCallers w.below w.calls) (m : 
   one_less (suc n) = omega arith
 
   -- the end of an iteration
-  pub turn_steps : (locals : List ℤ) (loops : List Loop) (a top k : ℕ) (v : LoopVariableR) (step : ℤ) (n : ℕ) (x : List StmtR) → is_block_simple x ≡ true
-      → HasAt g.code.instrs a (turn_code v top) → HasAt g.code.instrs top (block (codes x) top k) → StandsAt g.code.texts k (texts_in (codes x)) → a ≡ top + sizes (codes x) → Continues g.code (a + 5) rest loops
-      → SameStep g.code (Related g.code) (turned n v step x (before w locals (item.Turns v step n x) rest m)) (runs g.code g.clear (code_at w locals (record { iterations = n; step = step } ∷ loops) a) m)
+  pub turn_steps : (locals : List ℤ) (loops : List Loop) (a top k : ℕ) (v : LoopVariableR) (step : ℤ) (n : ℕ) (x : List StmtR) → is_block_simple g.program.subs x ≡ true
+      → HasAt g.code.instrs a (turn_code v top) → HasAt g.code.instrs top (block (codes x) top k) → StandsAt g.code.texts k (texts_in (codes x)) → a ≡ top + sizes (codes x) → Continues g.code g.program w.end (a + 5) rest loops
+      → SameStep g.code (Related g.code g.program) (turned n v step x (before w locals (item.Turns v step n x) rest m)) (runs g.code g.clear (code_at w locals (record { iterations = n; step = step } ∷ loops) a) m)
   turn_steps locals loops a top k v step n x simple has under texts e more =
       let inner : List Loop = record { iterations = n; step = step } ∷ loops in
       let here = code_at w locals inner a in
@@ -180,7 +181,7 @@ module _ (g : Setting) (w : Around) (callers : AreCallers w.below w.calls) (m : 
       let same : (i : ℕ) → i ≡ n - 1 → SameFor g here m (turned n v step x (before w locals (item.Turns v step n x) rest m)) (found now m (λ z. found (sum z) m (λ y. found (stored y) m (λ vs. after_turn i step loops top (b + 1) vs))))
       = λ i eq. subst (λ j. SameFor g here m (turned n v step x (before w locals (item.Turns v step n x) rest m)) (found now m (λ z. found (sum z) m (λ y. found (stored y) m (λ vs. after_turn j step loops top (b + 1) vs))))) (sym eq)
       (turn_same here (item.Turns v step n x) locals v step (λ vs. after_turn (n - 1) step loops top (b + 1) vs) (turns (n - 1) v step x rest)
-      (λ vs. turns_same here (item.Turns v step n x) locals v step x loops top k (b + 1) simple under texts (subst (λ p. HasAt g.code.instrs p (turn_code v top)) e has) out (subst (λ p. Continues g.code p rest loops) five more) vs (n - 1)) now) in
+      (λ vs. turns_same here (item.Turns v step n x) locals v step x loops top k (b + 1) simple under texts (subst (λ p. HasAt g.code.instrs p (turn_code v top)) e has) out (subst (λ p. Continues g.code g.program w.end p rest loops) five more) vs (n - 1)) now) in
       step_by g here m _ (turn_code v top) (found now m (λ z. found (sum z) m (λ y. found (stored y) m d))) refl has
       (leads_answer g (load_of v) _ here m now [] (λ z. found (sum z) m (λ y. found (stored y) m d)) (load_does v locals inner a) (λ z.
       leads_on g instr.StepBy _ (t1 z) (t2 z) m m (found (sum z) m (λ y. found (stored y) m d)) refl refl
@@ -228,9 +229,9 @@ module _ (g : Setting) (w : Around) (callers : AreCallers w.below w.calls) (m : 
   do_same c s locals v x d same (Ok m1) (Ok m2) (Err t) = trap_same g c (before w locals s rest m) t
   do_same c s locals v x d same (Ok m1) (Ok m2) (Ok m3) = begin_same c s locals v x d same (bounds_by m1 m2 m3)
 
-  pub do_steps : (s : Todo) (locals : List ℤ) (loops : List Loop) (a k : ℕ) (v : LoopVariableR) (e1 e2 e3 : ExprR) (x : List StmtR) → is_block_simple x ≡ true
-      → HasAt g.code.instrs a ((do_code v (bounds_code e1 e2 e3) (codes x)).code a k) → StandsAt g.code.texts k (texts_in (codes x)) → Continues g.code (a + (do_code v (bounds_code e1 e2 e3) (codes x)).size) rest loops
-      → SameStep g.code (Related g.code) (given (loop_begun v e1 e2 e3 (seen_by (code_at w locals loops a) m) (vars locals)) (before w locals s rest m) (λ p. kept p.1 (turns p.0.count v p.0.step x rest) (before w locals s rest m)))
+  pub do_steps : (s : Todo) (locals : List ℤ) (loops : List Loop) (a k : ℕ) (v : LoopVariableR) (e1 e2 e3 : ExprR) (x : List StmtR) → is_block_simple g.program.subs x ≡ true
+      → HasAt g.code.instrs a ((do_code v (bounds_code e1 e2 e3) (codes x)).code a k) → StandsAt g.code.texts k (texts_in (codes x)) → Continues g.code g.program w.end (a + (do_code v (bounds_code e1 e2 e3) (codes x)).size) rest loops
+      → SameStep g.code (Related g.code g.program) (given (loop_begun v e1 e2 e3 (seen_by (code_at w locals loops a) m) (vars locals)) (before w locals s rest m) (λ p. kept p.1 (turns p.0.count v p.0.step x rest) (before w locals s rest m)))
       (runs g.code g.clear (code_at w locals loops a) m)
   do_steps s locals loops a k v e1 e2 e3 x simple has texts more =
       let here = code_at w locals loops a in
@@ -277,5 +278,5 @@ module _ (g : Setting) (w : Around) (callers : AreCallers w.below w.calls) (m : 
       (found_ends u1 m _ (λ m1. found_ends u2 m _ (λ m2. found_ends u3 m _ (λ m3. found_ends (bounds_by m1 m2 m3) m _ (λ y. found_ends (stored y) m _ (λ vs. after_ends y.count y.step loops (b + 1 + 1 + 1) out vs))))))
       (subst (λ p. SameFor g here m (given (loop_begun v e1 e2 e3 (seen_by here m) (vars locals)) (before w locals s rest m) (λ p. kept p.1 (turns p.0.count v p.0.step x rest) (before w locals s rest m))) (all p)) (sym at_top)
       (do_same here s locals v x (d top)
-      (λ y vs. turns_same here s locals v y.step x loops top k out simple under texts turn refl (subst (λ p. Continues g.code p rest loops) at_out more) vs y.count)
+      (λ y vs. turns_same here s locals v y.step x loops top k out simple under texts turn refl (subst (λ p. Continues g.code g.program w.end p rest loops) at_out more) vs y.count)
       u1 u2 u3))

@@ -102,19 +102,19 @@ module _ (g : Setting) (w : Around) (locals : List ℤ) (loops : List Loop) (m :
   lined_ends true y z h i = h
   lined_ends false y z h i = i
 
-  line_same : (callers : AreCallers w.below w.calls) (a b : ℕ) (s : Todo) (rest : List Todo) → Continues g.code b rest loops → (xs : List (List ℕ)) (r : Bool)
+  line_same : (callers : AreCallers g.code g.program w.end w.below w.calls) (a b : ℕ) (s : Todo) (rest : List Todo) → Continues g.code g.program w.end b rest loops → (xs : List (List ℕ)) (r : Bool)
       → SameFor g (code_at w locals loops a) m (given (if r then Ok (with_line m (line_of xs)) else Err trap.Output) (before w locals s rest m) (λ n. ran n (before w locals s rest m)))
       (if r then Stops effect.Ran (code_at w locals loops b) (with_line m (line_of xs)) else Fails trap.Output m)
   line_same callers a b s rest more xs true = ran_same g (code_at w locals loops a) m (with_line m (line_of xs)) w locals rest loops b callers more
   line_same callers a b s rest more xs false = trap_same g (code_at w locals loops a) (before w locals s rest m) trap.Output
 
-  print_same : (callers : AreCallers w.below w.calls) (a b : ℕ) (s : Todo) (rest : List Todo) → Continues g.code b rest loops → (r : Result (List (List ℕ)) Trap)
+  print_same : (callers : AreCallers g.code g.program w.end w.below w.calls) (a b : ℕ) (s : Todo) (rest : List Todo) → Continues g.code g.program w.end b rest loops → (r : Result (List (List ℕ)) Trap)
       → SameFor g (code_at w locals loops a) m (given (bind (bind r (λ xs. Ok (line_of xs))) (added m)) (before w locals s rest m) (λ n. ran n (before w locals s rest m))) (of_texts b [] r)
   print_same callers a b s rest more (Err t) = trap_same g (code_at w locals loops a) (before w locals s rest m) t
   print_same callers a b s rest more (Ok xs) = line_same callers a b s rest more xs (has_room m (line_of xs))
 
-  pub print_steps : (callers : AreCallers w.below w.calls) (a k : ℕ) (s : Todo) (rest : List Todo) (l : List PrintR) → StandsAt g.code.texts k (part_texts l) → HasAt g.code.instrs a (parts_code l 0 k) → Continues g.code (a + length (parts_code l 0 k)) rest loops
-      → SameStep g.code (Related g.code) (given (printed l (seen_by (code_at w locals loops a) m) m) (before w locals s rest m) (λ n. ran n (before w locals s rest m))) (runs g.code g.clear (code_at w locals loops a) m)
+  pub print_steps : (callers : AreCallers g.code g.program w.end w.below w.calls) (a k : ℕ) (s : Todo) (rest : List Todo) (l : List PrintR) → StandsAt g.code.texts k (part_texts l) → HasAt g.code.instrs a (parts_code l 0 k) → Continues g.code g.program w.end (a + length (parts_code l 0 k)) rest loops
+      → SameStep g.code (Related g.code g.program) (given (printed l (seen_by (code_at w locals loops a) m) m) (before w locals s rest m) (λ n. ran n (before w locals s rest m))) (runs g.code g.clear (code_at w locals loops a) m)
   print_steps callers a k s rest l texts has more =
       let b = a + length (parts_code l 0 k) in
       let ts = texts_of l 0 seen_here in

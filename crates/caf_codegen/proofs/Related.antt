@@ -1,5 +1,5 @@
 -- Tasks that stand at the same place of a program, and instructions that lead from one Step to the next.
-use Rattle.std.proofs.Common.{◌≡◌, ℕ, zero, suc, ◌+◌, ◌-◌, ◌≤◌, List, [], ◌∷◌, ◌++◌, length, Option, None, Result, Ok, Err, ℤ, refl, sym, ap, ◌∙◌, subst, arith, length-append}
+use Rattle.std.proofs.Common.{map, true, pos, Some, ◌≡◌, ℕ, zero, suc, ◌+◌, ◌-◌, ◌≤◌, List, [], ◌∷◌, ◌++◌, length, Option, None, Result, Ok, Err, ℤ, refl, sym, ap, ◌∙◌, subst, arith, length-append}
 use Rattle.std.specs.Prelude.{slice_get}
 use Rattle.caf_base.specs.After.{After}
 use Rattle.caf_base.specs.Arithmetic.{Answer}
@@ -16,7 +16,16 @@ use Rattle.caf_treestep.specs.declared.task.Task.{Task as TreeTask}
 use Rattle.caf_treestep.specs.declared.todo.Todo.{Todo}
 use Rattle.caf_code.specs.Did.{Did, Goes, Stops, Blocks, Fails, Lacks, answers, found}
 use Rattle.caf_code.specs.Step.{does, does_at, ended, exec, runs, settled, then_run, unless_waiting}
-use Rattle.caf_code.specs.Task.{OpenCall, Task, past}
+use Rattle.caf_code.specs.Task.{Frame, OpenCall, Task, past}
+use Rattle.caf_base.specs.Element.{has_index}
+use Rattle.caf_base.specs.declared.object.Object.{Object}
+use Rattle.caf_program.specs.declared.program.Program.{Program}
+use Rattle.caf_source.specs.declared.todo.CopyOut.{CopyOut as TreeCopyOut}
+use Rattle.caf_source.specs.declared.todo.Target.{Target}
+use Rattle.caf_source.specs.declared.todo.Target.TheVariants as target
+use Rattle.caf_code.specs.declared.task.CopyOut.{CopyOut}
+use Rattle.caf_code.specs.declared.task.CopyTarget.{CopyTarget}
+use Rattle.caf_code.specs.declared.task.CopyTarget.TheVariants as copied
 use Rattle.caf_code.specs.declared.instr.Instr.{Instr}
 use Rattle.caf_code.specs.declared.listing.Listing.{Listing}
 use Rattle.caf_code.specs.declared.task.Loop.{Loop}
@@ -25,30 +34,62 @@ use Rattle.caf_exprgen.specs.Leaves.{seen_by}
 use Rattle.caf_exprgen.specs.Placed.{HasAt}
 use Rattle.caf_exprgen.specs.Words.{CodesLeaveValues}
 use Rattle.caf_codegen.specs.Agreement.{SameStep}
-use Rattle.caf_codegen.proofs.Follows.{Continues, Settles, settle}
+use Rattle.caf_codegen.proofs.Follows.{Continues, FrameEnd, OfCall, OfMain, OfShip, Settles, settle}
 use Rattle.caf_codegen.proofs.Places.{has_back, has_front, has_length}
 
--- what a plain statement leaves of a task over trees and of one of the code: the open calls, and the event of a ship
+-- what a plain statement leaves of a task over trees and of one of the code: the open calls, the end of the frame, and
+-- the event of a ship
 pub record Around : Type 0 where
   pub below : List TreeFrame
   pub calls : List OpenCall
+  pub end : FrameEnd
   pub done : Option EventAt
 
 -- a task over trees between two statements
 abbrev pub tree_at : Around → List ℤ → List Todo → TreeTask
 tree_at w locals todo = record { frame = record { locals = locals; todo = todo }; below = w.below; held = []; wait = None; done = w.done }
 
+-- a frame of the code between two statements
+abbrev pub frame_at : List ℤ → List Loop → Frame
+frame_at locals loops = record { cells = locals; stack = []; held = []; loops = loops; listed = []; outs = [] }
+
 -- a task of the code between two statements
 abbrev pub code_at : Around → List ℤ → List Loop → ℕ → Task
-code_at w locals loops a = record { address = a; frame = record { cells = locals; stack = []; held = []; loops = loops; listed = []; outs = [] }; calls = w.calls; parts = []; wait = None; done = w.done }
+code_at w locals loops a = record { address = a; frame = frame_at locals loops; calls = w.calls; parts = []; wait = None; done = w.done }
 
--- the open calls are the same: so far there are none
-abbrev pub AreCallers : List TreeFrame → List OpenCall → Type 0
-AreCallers [] [] = Unit {0}
-AreCallers _ _ = ⊥
+abbrev pub target_of : Target → CopyTarget
+target_of (target.Scalar o) = copied.Scalar o
+target_of (target.Local k) = copied.Local k
+target_of (target.Element o i) = copied.Element o i
+
+abbrev pub out_of : TreeCopyOut → CopyOut
+out_of x = record { cell = x.cell; target = target_of x.target }
+
+-- an object that has the index
+abbrev pub HasIndex : List Object → ℕ → ℤ → Type 0
+HasIndex objects o i = (x : Object) × (slice_get objects o ≡ Some x) × (has_index x i ≡ true)
+
+-- a place that can be written in each memory of these objects
+abbrev pub CanPut : List Object → Target → Type 0
+CanPut objects (target.Scalar o) = HasIndex objects o (pos 1)
+CanPut objects (target.Local k) = Unit {0}
+CanPut objects (target.Element o i) = HasIndex objects o i
+
+abbrev pub CanPutAll : List Object → List TreeCopyOut → Type 0
+CanPutAll objects [] = Unit {0}
+CanPutAll objects (x ∷ outs) = CanPut objects x.target × CanPutAll objects outs
+
+-- The frames below are those of the same calls: each goes on behind its call with the same cells, and the same dummies
+-- are copied out to places that can be written.
+abbrev pub AreCallers : Listing → Program → FrameEnd → List TreeFrame → List OpenCall → Type 0
+AreCallers code p OfMain [] [] = Unit {0}
+AreCallers code p OfShip [] [] = Unit {0}
+AreCallers code p (OfCall outs) (f ∷ below) (c ∷ calls) = (end : FrameEnd) × (loops : List Loop) × (c.caller ≡ frame_at f.locals loops) × (c.outs ≡ map out_of outs) × CanPutAll p.objects outs
+    × Continues code p end (c.from + 1) f.todo loops × AreCallers code p end below calls
+AreCallers code p _ _ _ = ⊥
 
 -- The task of the code stands where the code does what the task over trees has still to do, with the same cells.
-pub record Related (code : Listing) (t : TreeTask) (c : Task) : Type 0 where
+pub record Related (code : Listing) (p : Program) (t : TreeTask) (c : Task) : Type 0 where
   pub around : Around
   pub locals : List ℤ
   pub todo : List Todo
@@ -56,8 +97,8 @@ pub record Related (code : Listing) (t : TreeTask) (c : Task) : Type 0 where
   pub address : ℕ
   pub tree : t ≡ tree_at around locals todo
   pub task : c ≡ code_at around locals loops address
-  pub there : Settles code address todo loops
-  pub callers : AreCallers around.below around.calls
+  pub there : Settles code p around.end address todo loops
+  pub callers : AreCallers code p around.end around.below around.calls
 
 -- an end of the way through instructions
 abbrev pub IsEnd : Did → Type 0
@@ -99,6 +140,7 @@ exec_ends code clear i j t m d e h le =
 -- what is at hand in a Step: the code, what is known of the code of expressions, and which copies are open
 pub record Setting : Type 0 where
   pub code : Listing
+  pub program : Program
   pub laws : CodesLeaveValues
   pub clear : FenceClear
 
@@ -120,6 +162,11 @@ leads_on g i js t u m n d e at more = record { by = λ has. after_first g i js t
 found_then : {A : Type 0} (r : Result A Trap) (m : ImageMemory) (go : A → Did) (next : Task → ImageMemory → Did) (d : A → Did) → ((x : A) → then_run (go x) next ≡ d x) → then_run (found r m go) next ≡ found r m d
 found_then (Err trap) m go next d e = refl
 found_then (Ok x) m go next d e = e x
+
+-- the same, where what is found is known
+found_then_is : {A : Type 0} (r q : Result A Trap) (m : ImageMemory) (go : A → Did) (next : Task → ImageMemory → Did) (d : A → Did) → r ≡ q → ((x : A) → r ≡ Ok x → then_run (go x) next ≡ d x) → then_run (found q m go) next ≡ found q m d
+found_then_is r (Err trap) m go next d is e = refl
+found_then_is r (Ok x) m go next d is e = e x is
 
 -- an instruction that finds something, or traps
 pub leads_found : {A : Type 0} (g : Setting) (i : Instr) (js : List Instr) (t : Task) (m : ImageMemory) (r : Result A Trap) (u : A → Task) (n : A → ImageMemory) (d : A → Did)
@@ -151,9 +198,29 @@ leads_value g e at js t m d more = record {
       ∙ found_then v m (λ z. Goes (past (length is) (z ∷ t.frame.stack) t) m) (exec g.code g.clear (length js)) d (λ z. (more z).by (has_back g.code.instrs t.address is js has));
 }
 
+-- the same two, where the value is known
+pub leads_answer_is : (g : Setting) (i : Instr) (js : List Instr) (t : Task) (m : ImageMemory) (v : Answer) (stack : List ℤ) (d : ℤ → Did)
+    → does g.code g.clear i t m ≡ answers v 1 stack t m → ((z : ℤ) → v ≡ Ok z → Leads g js (d z) (past 1 (z ∷ stack) t) m) → Leads g (i ∷ js) (found v m d) t m
+leads_answer_is g i js t m v stack d e more = record {
+  by = λ has.
+      after_first g i js t m (found v m (λ z. Goes (past 1 (z ∷ stack) t) m)) (e ∙ answers_found v 1 stack t m) has
+      ∙ found_then_is v v m (λ z. Goes (past 1 (z ∷ stack) t) m) (exec g.code g.clear (length js)) d refl (λ z is. (more z is).by has.1);
+}
+
+pub leads_value_is : (g : Setting) (e : ExprR) (at : ℕ) (js : List Instr) (t : Task) (m : ImageMemory) (d : ℤ → Did)
+    → ((z : ℤ) → value_at e at (seen_by t m) ≡ Ok z → Leads g js (d z) (past (length (expr_code e at)) (z ∷ t.frame.stack) t) m) → Leads g (expr_code e at ++ js) (found (value_at e at (seen_by t m)) m d) t m
+leads_value_is g e at js t m d more = record {
+  by = λ has.
+      let is = expr_code e at in
+      let v = value_at e at (seen_by t m) in
+      ap (λ n. exec g.code g.clear n t m) (length-append is js) ∙ exec_split g.code g.clear (length is) (length js) t m
+      ∙ ap (λ d. then_run d (exec g.code g.clear (length js))) (g.laws.leaves e at g.code g.clear t m (has_front g.code.instrs t.address is js has) ∙ answers_found v (length is) t.frame.stack t m)
+      ∙ found_then_is v v m (λ z. Goes (past (length is) (z ∷ t.frame.stack) t) m) (exec g.code g.clear (length js)) d refl (λ z is_z. (more z is_z).by (has_back g.code.instrs t.address is js has));
+}
+
 -- the Step of the tree, and what the code did from a task on
 abbrev pub SameFor : Setting → Task → ImageMemory → After TreeTask → Did → Type 0
-SameFor g c m x d = SameStep g.code (Related g.code) x (ended g.code c m d)
+SameFor g c m x d = SameStep g.code (Related g.code g.program) x (ended g.code c m d)
 
 -- a trap on both sides
 pub trap_same : (g : Setting) (c : Task) (a : At) (trap : Trap) → SameFor g c a.memory (record { effect = effect.Traps trap; task = a.task; memory = a.memory }) (Fails trap a.memory)
@@ -169,7 +236,7 @@ found_ends (Err trap) m d h = tt
 found_ends (Ok x) m d h = h x
 
 -- a Step that ends where the code goes on with what the tree has still to do
-pub ran_same : (g : Setting) (c : Task) (m n : ImageMemory) (w : Around) (locals : List ℤ) (todo : List Todo) (loops : List Loop) (a : ℕ) → AreCallers w.below w.calls → Continues g.code a todo loops
+pub ran_same : (g : Setting) (c : Task) (m n : ImageMemory) (w : Around) (locals : List ℤ) (todo : List Todo) (loops : List Loop) (a : ℕ) → AreCallers g.code g.program w.end w.below w.calls → Continues g.code g.program w.end a todo loops
     → SameFor g c m (record { effect = effect.Ran; task = tree_at w locals todo; memory = n }) (Stops effect.Ran (code_at w locals loops a) n)
 ran_same g c m n w locals todo loops a callers there = record {
   effect = refl;
@@ -182,15 +249,15 @@ ran_same g c m n w locals todo loops a callers there = record {
     address = settled g.code.instrs (length g.code.instrs) a;
     tree = refl;
     task = refl;
-    there = settle g.laws g.code a todo loops there (length g.code.instrs) (omega arith);
+    there = settle g.laws g.code g.program w.end a todo loops there (length g.code.instrs) (omega arith);
     callers = callers;
   };
 }
 
 -- a Step whose instructions stand at the task's address
-pub step_by : (g : Setting) (c : Task) (m : ImageMemory) (x : After TreeTask) (is : List Instr) (d : Did) → c.wait ≡ None → HasAt g.code.instrs c.address is → Leads g is d c m → IsEnd d → SameFor g c m x d → SameStep g.code (Related g.code) x (runs g.code g.clear c m)
+pub step_by : (g : Setting) (c : Task) (m : ImageMemory) (x : After TreeTask) (is : List Instr) (d : Did) → c.wait ≡ None → HasAt g.code.instrs c.address is → Leads g is d c m → IsEnd d → SameFor g c m x d → SameStep g.code (Related g.code g.program) x (runs g.code g.clear c m)
 step_by g c m x is d free has leads h same =
     let le : length is ≤ length g.code.instrs = omega (arith, has_length g.code.instrs c.address is has) in
     let e : exec g.code g.clear (length g.code.instrs) c m ≡ d = exec_ends g.code g.clear (length is) (length g.code.instrs) c m d (leads.by has) h le in
-    subst (λ w. SameStep g.code (Related g.code) x (unless_waiting w g.code g.clear c m)) (sym free)
-    (subst (λ y. SameStep g.code (Related g.code) x (ended g.code c m y)) (sym e) same)
+    subst (λ w. SameStep g.code (Related g.code g.program) x (unless_waiting w g.code g.clear c m)) (sym free)
+    (subst (λ y. SameStep g.code (Related g.code g.program) x (ended g.code c m y)) (sym e) same)

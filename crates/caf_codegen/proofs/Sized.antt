@@ -66,6 +66,7 @@ sized_parts (p ∷ l) at k j =
 
 sized_layer : (y : StmtR-F Kid) → IsSized (stmt_layer (map-StmtR StmtR StmtCode stmt_code (map-StmtR Kid StmtR (λ e. e.0) y)))
 sized_layer (StmtR-F.Assign line v e) = λ a k. refl
+sized_layer (StmtR-F.Call line f actuals) = λ a k. refl
 sized_layer (StmtR-F.Print line parts) = λ a k. sized_parts parts 0 k 0
 sized_layer (StmtR-F.If line e x y) = sized_if (expr_code e 0) x y
 sized_layer (StmtR-F.Do line v first last step x) = sized_do v (bounds_code first last step) x

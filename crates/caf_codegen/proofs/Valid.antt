@@ -1,15 +1,26 @@
 -- The code of statements that keep the rules keeps those of a code.
-use Rattle.std.proofs.Common.{◌≡◌, ℕ, suc, ◌+◌, ◌<◌, ◌≤◌, true, false, List, [], ◌∷◌, ◌++◌, map, length, Option, Some, None, refl, sym, ap, ◌∙◌, subst, arith, length-append}
-use Rattle.std.specs.Prelude.{Bool, ◌&&◌, nat_lt, slice_get}
+use Rattle.caf_program.specs.declared.program.Intent.TheVariants.{In, InOut}
+use Rattle.caf_program.specs.declared.parts.ActualR.TheVariants as actual
+use Rattle.caf_code.specs.declared.instr.OutForm.TheVariants as out
+use Rattle.caf_code.specs.declared.listing.SubCode.{SubCode}
+use Rattle.caf_program.specs.declared.parts.ActualR.{ActualR}
+use Rattle.caf_program.specs.declared.program.SubR.{SubR}
+use Rattle.caf_program.specs.declared.program.Intent.{Intent}
+use Rattle.caf_program.specs.declared.program.DummyR.{DummyR}
+use Rattle.caf_program.specs.Ships.{is_in}
+use Rattle.std.proofs.lemmas.List.{length-map}
+use Rattle.caf_codegen.specs.Compiled.{copied_dummies}
+use Rattle.std.proofs.Common.{◌≡◌, ℕ, suc, ◌+◌, ◌<◌, ◌≤◌, true, false, List, [], ◌∷◌, ◌++◌, map, length, Option, Some, None, refl, sym, ap, ◌∙◌, subst, arith, length-append, zero}
+use Rattle.std.specs.Prelude.{Bool, ◌&&◌, nat_lt, slice_get, nat_eq, not}
 use Rattle.std.specs.List.{list_all}
-use Rattle.std.proofs.lemmas.Bool.{lt-ltb}
+use Rattle.std.proofs.lemmas.Bool.{lt-ltb, eq-eqb}
 use Rattle.std.proofs.lemmas.Option.{slice_get_within}
 use Rattle.caf_base.specs.declared.object.Kind.{Kind}
 use Rattle.caf_base.specs.declared.object.Kind.TheVariants as kind
 use Rattle.caf_base.specs.declared.object.Object.{Object}
 use Rattle.caf_program.specs.Expressions.{count_all}
 use Rattle.caf_program.specs.Kinds.{FrameCell, Scope, agree_in_kind, cell_kind, element_kind, has_kind, is_integer, is_logical, is_scalar, kind_of, object_kind, provided, scalar_kind}
-use Rattle.caf_program.specs.Rules.{Keeps, Loops, all_keep, fits_part, free_cell, free_object, keeps_rules, may_count, rule_layer, variable_kind}
+use Rattle.caf_program.specs.Rules.{Keeps, Loops, all_keep, fits_part, free_cell, free_object, keeps_rules, may_count, rule_layer, variable_kind, fit_dummies, fits_dummy, fits_sub}
 use Rattle.caf_program.specs.Value.{count}
 use Rattle.caf_program.specs.declared.expr.ExprR.{ExprR}
 use Rattle.caf_program.specs.declared.parts.PrintR.{PrintR}
@@ -23,10 +34,10 @@ use Rattle.caf_program.specs.declared.stmt.StmtR.{StmtR}
 use Rattle.caf_program.specs.declared.stmt.StmtR.TheOpen.{StmtR-F}
 use Rattle.caf_program.specs.declared.stmt.StmtR.TheFolds.{ind-StmtR, fold-roll-StmtR, map-StmtR}
 use Rattle.caf_program.specs.declared.stmt.StmtR.TheViews.{roll-StmtR}
-use Rattle.caf_source.specs.Built.{all_true, is_part_plain, is_plain}
-use Rattle.caf_treestep.specs.Evaluated.{held_by_part}
-use Rattle.caf_code.specs.Rules.{has_operands, is_data, is_data_kind, of_kind}
-use Rattle.caf_code.specs.Shapes.{Part, Shape, cells_of, next_shape, only_if}
+use Rattle.caf_source.specs.Built.{all_true, is_actual_plain, is_part_plain, is_plain}
+use Rattle.caf_source.specs.Evaluated.{held_by_actual, held_by_part}
+use Rattle.caf_code.specs.Rules.{has_operands, is_data, is_data_kind, of_kind, LeadOn}
+use Rattle.caf_code.specs.Shapes.{Part, Shape, cells_of, next_shape, only_if, copied_count, copied_in, dummies_in, marks, then_shape, way, with_height, without, pops}
 use Rattle.caf_code.specs.Step.{go_of}
 use Rattle.caf_code.specs.declared.instr.Arithmetic.TheVariants as arithmetic
 use Rattle.caf_code.specs.declared.instr.CellUse.TheVariants as cell
@@ -39,12 +50,12 @@ use Rattle.caf_exprgen.specs.ExprCode.{expr_code}
 use Rattle.caf_exprgen.specs.Placed.{HasAt}
 use Rattle.caf_exprgen.specs.Straight.{Serves, all_inner, is_inner, is_within_step, with_operand}
 use Rattle.caf_exprgen.specs.Words.{CodesLeaveValues}
-use Rattle.caf_codegen.specs.Simple.{is_block_simple, is_simple, simple_layer}
-use Rattle.caf_codegen.specs.StmtCode.{StandsAt, StmtCode, assign_code, block, bounds_code, codes, do_code, if_code, load_of, part_code, part_text, part_texts, parts_code, sizes, stmt_code, stmt_layer, store_of, texts_in, turn_code, while_code}
+use Rattle.caf_codegen.proofs.Fits.{fits_called, is_block_simple, is_simple, simple_layer}
+use Rattle.caf_codegen.specs.StmtCode.{StandsAt, StmtCode, assign_code, block, bounds_code, codes, do_code, if_code, load_of, part_code, part_text, part_texts, parts_code, sizes, stmt_code, stmt_layer, store_of, texts_in, turn_code, while_code, actual_code, actuals_code, call_code}
 use Rattle.caf_codegen.proofs.Places.{has_back, has_behind, has_front, stands_back, stands_front}
-use Rattle.caf_codegen.proofs.Runs.{AllFine, Entry, Fine, HasRun, Piece, Rests, Spot, after_append, inner_still, Target, after_all, fine_append, inner_piece, is_fine, is_there, meets_here, piece_none, piece_seq, piece_weaker, rests_back, rests_here, rests_on, run_behind, run_front, shape_or, stand_in, straight_piece}
+use Rattle.caf_codegen.proofs.Runs.{AllFine, Entry, Fine, HasRun, Piece, Rests, Spot, after_append, inner_still, Target, after_all, fine_append, inner_piece, is_fine, is_there, meets_here, piece_none, piece_seq, piece_weaker, rests_back, rests_here, rests_on, run_behind, run_front, shape_or, stand_in, straight_piece, shapes_in}
 use Rattle.caf_codegen.proofs.Sized.{sized, sized_block}
-use Rattle.caf_codegen.proofs.Steps.{part_none, plain_none}
+use Rattle.caf_codegen.proofs.Steps.{actual_none, part_none, plain_none}
 use Rattle.caf_codegen.proofs.Both.{first_true, second_true}
 
 -- between statements: some loops and some finishes are open
@@ -90,7 +101,27 @@ if_allowed : (b : Bool) (x : Option Shape) → b ≡ true → only_if b x ≡ x
 if_allowed true x e = refl
 if_allowed false x e = let f : false ≡ true = e in absurd (cc)
 
-module _ (laws : CodesLeaveValues) (code : Listing) (all : List Entry) (p : Part) (s : Scope) (serves : Serves code p s) where
+-- each subroutine has an entry with its dummies
+abbrev pub SubsListed : Listing → List SubR → Type 0
+SubsListed code subs = (at : ℕ) (f : SubR) → slice_get subs at ≡ Some f → (x : SubCode) × (slice_get code.subs at ≡ Some x) × (x.dummies ≡ copied_dummies f)
+
+-- between the actuals of a call: operands and places for copy out
+abbrev counted : ℕ → ℕ → ℕ → ℕ → Shape
+counted l f n k = record { stack = n; held = 0; loops = l; listed = []; outs = k; finishes = f }
+
+abbrev copies_with : Intent → ℕ → ℕ
+copies_with In k = k
+copies_with InOut k = suc k
+
+copies_more : (i : Intent) (bs : List Bool) (k : ℕ) → copied_count bs + copies_with i k ≡ copied_count (not (is_in i) ∷ bs) + k
+copies_more In bs k = refl
+copies_more InOut bs k = omega arith
+
+without_all : (n : ℕ) → without n n ≡ Some 0
+without_all zero = refl
+without_all (suc n) = without_all n
+
+module _ (laws : CodesLeaveValues) (code : Listing) (all : List Entry) (p : Part) (s : Scope) (serves : Serves code p s) (listed : SubsListed code s.subs) where
   scalar_there : (o : ℕ) (k : ValueKind) → scalar_kind (slice_get s.objects o) ≡ Some k → is_data code o ≡ true
   scalar_there o k e = subst (λ xs. of_kind is_data_kind (slice_get xs o) ≡ true) (sym serves.objects) (data_scalar (slice_get s.objects o) k e)
 
@@ -198,12 +229,116 @@ module _ (laws : CodesLeaveValues) (code : Listing) (all : List Entry) (p : Part
       (parts_piece parts (at + held_by_part x) (k + length (part_text x)) b l f (omega (arith, zero_at, part_none x plain_x)) (second_true (is_part_plain x) (all_true (map is_part_plain parts)) simple)
       (second_true (fits_part s x) (list_all (fits_part s) parts) fits) (stands_back code.texts k (part_text x) (part_texts parts) texts))
 
+  -- an actual puts its value onto the stack, and a place for a dummy that is copied out
+  actual_piece : (loops : Loops) (kind : ValueKind) (i : Intent) (x : ActualR) (at a l f n k : ℕ) → at ≡ 0 → is_actual_plain x ≡ true → fits_dummy s loops kind i x ≡ true
+      → Piece code all p true true (actual_code x at) a (counted l f n k) (counted l f (suc n) (copies_with i k))
+  actual_piece loops kind In (actual.Value e) at a l f n k zero_at simple fits =
+      let is = has_some kind (kind_of s e) fits in
+      value_piece e at a is.0 (counted l f n k) is.1 (omega (arith, zero_at, plain_none e simple))
+  actual_piece loops kind In (actual.Scalar o) at a l f n k zero_at simple fits = let h : false ≡ true = fits in absurd (cc)
+  actual_piece loops kind In (actual.Local j) at a l f n k zero_at simple fits = let h : false ≡ true = fits in absurd (cc)
+  actual_piece loops kind In (actual.Element o i) at a l f n k zero_at simple fits = let h : false ≡ true = fits in absurd (cc)
+  actual_piece loops kind InOut (actual.Value e) at a l f n k zero_at simple fits = let h : false ≡ true = fits in absurd (cc)
+  actual_piece loops kind InOut (actual.Scalar o) at a l f n k zero_at simple fits =
+      let is = has_some kind (scalar_kind (slice_get s.objects o)) (first_true (has_kind kind (scalar_kind (slice_get s.objects o))) (free_object loops o) fits) in
+      let data_ = scalar_there o is.0 is.1 in
+      piece_seq code all p true true true (instr.Load reach.Scalar o ∷ []) (instr.Out (out.Scalar o) ∷ []) a (a + 1) (counted l f n k) (counted l f (suc n) k) (counted l f (suc n) (suc k)) refl
+      (inner_piece code all p (instr.Load reach.Scalar o) a (counted l f n k) (counted l f (suc n) k) refl data_ refl) (inner_piece code all p (instr.Out (out.Scalar o)) (a + 1) (counted l f (suc n) k) (counted l f (suc n) (suc k)) refl data_ refl)
+  actual_piece loops kind InOut (actual.Local j) at a l f n k zero_at simple fits =
+      let is = has_some kind (cell_kind (slice_get s.cells j)) (first_true (has_kind kind (cell_kind (slice_get s.cells j))) (free_cell s loops j) fits) in
+      let below = cell_there j is.0 is.1 in
+      piece_seq code all p true true true (instr.Cell cell.Get j ∷ []) (instr.Out (out.Local j) ∷ []) a (a + 1) (counted l f n k) (counted l f (suc n) k) (counted l f (suc n) (suc k)) refl
+      (inner_piece code all p (instr.Cell cell.Get j) a (counted l f n k) (counted l f (suc n) k) refl refl (if_allowed (nat_lt j (cells_of code p)) (Some (counted l f (suc n) k)) below))
+      (inner_piece code all p (instr.Out (out.Local j)) (a + 1) (counted l f (suc n) k) (counted l f (suc n) (suc k)) refl refl (if_allowed (nat_lt j (cells_of code p)) (Some (counted l f (suc n) (suc k))) below))
+  actual_piece loops kind InOut (actual.Element o i) at a l f n k zero_at simple fits =
+      let kind_o = object_kind (slice_get s.objects o) in
+      let both = first_true (has_kind kind kind_o && is_integer (kind_of s i)) (free_object loops o) fits in
+      let is = has_some kind kind_o (first_true (has_kind kind kind_o) (is_integer (kind_of s i)) both) in
+      let index = has_some Integer (kind_of s i) (second_true (has_kind kind kind_o) (is_integer (kind_of s i)) both) in
+      let data_ = element_there o is.0 is.1 in
+      let E = expr_code i at in
+      let b = a + length E in
+      let c = b + 1 + length E in
+      let h = counted l f n k in
+      let h1 = counted l f (suc n) k in
+      let h2 = counted l f (suc (suc n)) k in
+      let h3 = counted l f (suc n) (suc k) in
+      let none = plain_none i simple in
+      piece_seq code all p true true true E (instr.Load reach.Element o ∷ (E ++ (instr.Out (out.Element o) ∷ []))) a b h h1 h3 refl (value_piece i at a index.0 h index.1 (omega (arith, zero_at, none)))
+      (piece_seq code all p true true true (instr.Load reach.Element o ∷ []) (E ++ (instr.Out (out.Element o) ∷ [])) b (b + 1) h1 h1 h3 refl (inner_piece code all p (instr.Load reach.Element o) b h1 h1 refl data_ refl)
+      (piece_seq code all p true true true E (instr.Out (out.Element o) ∷ []) (b + 1) c h1 h2 h3 refl (value_piece i at (b + 1) index.0 h1 index.1 (omega (arith, zero_at, none)))
+      (inner_piece code all p (instr.Out (out.Element o)) c h2 h3 refl data_ refl)))
+
+  actuals_piece : (loops : Loops) (ds : List DummyR) (xs : List ActualR) (at a l f n k : ℕ) → at ≡ 0 → all_true (map is_actual_plain xs) ≡ true → fit_dummies s loops ds xs ≡ true
+      → Piece code all p true true (actuals_code xs at) a (counted l f n k) (counted l f (length ds + n) (copied_count (map (λ (d : DummyR). not (is_in d.intent)) ds) + k))
+  actuals_piece loops [] [] at a l f n k zero_at simple fits =
+      let n' : n ≡ 0 + n = omega arith in
+      let k' : k ≡ 0 + k = omega arith in
+      subst (λ i. Piece code all p true true [] a (counted l f n k) (counted l f i (0 + k))) n' (subst (λ j. Piece code all p true true [] a (counted l f n k) (counted l f n j)) k' (piece_none code all p true a (counted l f n k)))
+  actuals_piece loops [] (x ∷ xs) at a l f n k zero_at simple fits = let h : false ≡ true = fits in absurd (cc)
+  actuals_piece loops (d ∷ ds) [] at a l f n k zero_at simple fits = let h : false ≡ true = fits in absurd (cc)
+  actuals_piece loops (d ∷ ds) (x ∷ xs) at a l f n k zero_at simple fits =
+      let bs = map (λ (d : DummyR). not (is_in d.intent)) ds in
+      let here = actual_code x at in
+      let next = at + held_by_actual x in
+      let plain_x = first_true (is_actual_plain x) (all_true (map is_actual_plain xs)) simple in
+      let one = actual_piece loops d.kind d.intent x at a l f n k zero_at plain_x (first_true (fits_dummy s loops d.kind d.intent x) (fit_dummies s loops ds xs) fits) in
+      let more = actuals_piece loops ds xs next (a + length here) l f (suc n) (copies_with d.intent k) (omega (arith, zero_at, actual_none x plain_x)) (second_true (is_actual_plain x) (all_true (map is_actual_plain xs)) simple) (second_true (fits_dummy s loops d.kind d.intent x) (fit_dummies s loops ds xs) fits) in
+      let whole = actuals_code (x ∷ xs) at in
+      let n' : length ds + suc n ≡ suc (length ds) + n = omega arith in
+      subst (λ i. Piece code all p true true whole a (counted l f n k) (counted l f i (copied_count (not (is_in d.intent) ∷ bs) + k))) n'
+      (subst (λ j. Piece code all p true true whole a (counted l f n k) (counted l f (length ds + suc n) j)) (copies_more d.intent bs k)
+      (piece_seq code all p true true true here (actuals_code xs next) a (a + length here) (counted l f n k) (counted l f (suc n) (copies_with d.intent k)) (counted l f (length ds + suc n) (copied_count bs + copies_with d.intent k)) refl one more))
+
+  -- the call itself takes its operands and places
+  call_shape : (i : ℕ) (g : SubR) (x : SubCode) (l f : ℕ) → slice_get code.subs i ≡ Some x → x.dummies ≡ copied_dummies g → next_shape code p (instr.Call i) (counted l f (length g.dummies) (copied_count (copied_dummies g))) ≡ Some (plain l f)
+  call_shape i g x l f at dummies =
+      let n = length g.dummies in
+      let c = copied_count (copied_dummies g) in
+      let h = counted l f n c in
+      let then_marks : Shape → Option Shape = λ k. marks (record k { outs = 0 }) in
+      let of_list : List Bool → Option Shape = λ bs. only_if (nat_eq c (copied_count bs)) (then_shape (with_height (without (length bs) n) h) then_marks) in
+      let all_taken : without (length (copied_dummies g)) n ≡ Some 0 = ap (λ m. without m n) (length-map g.dummies (λ (d : DummyR). not (is_in d.intent))) ∙ without_all n in
+      ap (λ o. only_if (nat_eq c (copied_in o)) (then_shape (pops (dummies_in o) h) then_marks)) at ∙ ap of_list dummies
+      ∙ if_allowed (nat_eq c c) (then_shape (with_height (without (length (copied_dummies g)) n) h) then_marks) (eq-eqb c c refl) ∙ ap (λ o. then_shape (with_height o h) then_marks) all_taken
+
+  call_piece : (i : ℕ) (g : SubR) (x : SubCode) (a l f : ℕ) → slice_get code.subs i ≡ Some x → x.dummies ≡ copied_dummies g → Piece code all p false true (instr.Call i ∷ []) a (counted l f (length g.dummies) (copied_count (copied_dummies g))) (plain l f)
+  call_piece i g x a l f at dummies =
+      let h = counted l f (length g.dummies) (copied_count (copied_dummies g)) in
+      let shape = call_shape i g x l f at dummies in
+      record {
+        after = ap (shape_or h) shape;
+        fine = λ has run end.
+            let rests = rests_here code all a (instr.Call i) has.0 refl in
+            let meets = meets_here code all a (instr.Call i) has.0 refl refl in
+            let leading : LeadOn (shapes_in all) p (way (a + 1) (Some (plain l f))) = (stand_in code all p (a + 1) (plain l f) end.target.stands, tt) in (
+              record { target = record { inside = slice_get_within code.instrs a (instr.Call i) has.0; stands = run.0 }; rests = rests; meets = meets },
+              (
+                is_fine code all p a (instr.Call i) h run.0 (lt-ltb i (length code.subs) (slice_get_within code.subs i x at)) (is_there code all (a + 1) end.target.inside) (meets (length code.instrs) (omega arith)) rests
+                    (subst (LeadOn (shapes_in all) p) (sym (ap (way (a + 1)) shape)) leading),
+                tt,
+              ),
+            );
+      }
+
+  whole_call : (loops : Loops) (i : ℕ) (o : Option SubR) (xs : List ActualR) (a l f : ℕ) → slice_get s.subs i ≡ o → all_true (map is_actual_plain xs) ≡ true → fits_sub s loops o xs ≡ true → Piece code all p false true (call_code i xs) a (plain l f) (plain l f)
+  whole_call loops i None xs a l f at simple fits = let h : false ≡ true = fits in absurd (cc)
+  whole_call loops i (Some g) xs a l f at simple fits =
+      let x = listed i g at in
+      let c = copied_count (copied_dummies g) in
+      let n' : length g.dummies + 0 ≡ length g.dummies = omega arith in
+      let k' : c + 0 ≡ c = omega arith in
+      let b = a + length (actuals_code xs 0) in
+      let args = actuals_piece loops g.dummies xs 0 a l f 0 0 refl simple fits in
+      let args' = subst (λ n. Piece code all p true true (actuals_code xs 0) a (plain l f) (counted l f n c)) n' (subst (λ k. Piece code all p true true (actuals_code xs 0) a (plain l f) (counted l f (length g.dummies + 0) k)) k' args) in
+      piece_seq code all p false true true (actuals_code xs 0) (instr.Call i ∷ []) a b (plain l f) (counted l f (length g.dummies) c) (plain l f) refl args' (call_piece i g x.0 b l f x.1 x.2)
+
   -- a statement between others
   abbrev Good : StmtCode → Bool → Keeps → Type 0
   Good c simple keeps = simple ≡ true → (loops : Loops) → keeps loops ≡ true → (a k l f : ℕ) → StandsAt code.texts k c.texts → Piece code all p false false (c.code a k) a (plain l f) (plain l f)
 
   abbrev Kid : Type 0
-  Kid = (x : StmtR) × Good (stmt_code x) (is_simple x) (keeps_rules s x)
+  Kid = (x : StmtR) × Good (stmt_code x) (is_simple s.subs x) (keeps_rules s x)
 
   abbrev kids : List Kid → List StmtR
   kids = map (λ x. x.0)
@@ -211,14 +346,14 @@ module _ (laws : CodesLeaveValues) (code : Listing) (all : List Entry) (p : Part
   abbrev keep : List StmtR → List Keeps
   keep = map (keeps_rules s)
 
-  good_block : (x : List Kid) → is_block_simple (kids x) ≡ true → (loops : Loops) → all_keep (keep (kids x)) loops ≡ true → (a k l f : ℕ) → StandsAt code.texts k (texts_in (codes (kids x)))
+  good_block : (x : List Kid) → is_block_simple s.subs (kids x) ≡ true → (loops : Loops) → all_keep (keep (kids x)) loops ≡ true → (a k l f : ℕ) → StandsAt code.texts k (texts_in (codes (kids x)))
       → Piece code all p false false (block (codes (kids x)) a k) a (plain l f) (plain l f)
   good_block [] simple loops keeps a k l f texts = piece_none code all p false a (plain l f)
   good_block (x ∷ more) simple loops keeps a k l f texts =
       let c = stmt_code x.0 in
       piece_seq code all p false false false (c.code a k) _ a (a + c.size) (plain l f) (plain l f) (plain l f) (omega (arith, sized x.0 a k))
-      (x.1 (first_true (is_simple x.0) (is_block_simple (kids more)) simple) loops (first_true (keeps_rules s x.0 loops) (all_keep (keep (kids more)) loops) keeps) a k l f (stands_front code.texts k c.texts (texts_in (codes (kids more))) texts))
-      (good_block more (second_true (is_simple x.0) (is_block_simple (kids more)) simple) loops (second_true (keeps_rules s x.0 loops) (all_keep (keep (kids more)) loops) keeps) (a + c.size) (k + length c.texts) l f
+      (x.1 (first_true (is_simple s.subs x.0) (is_block_simple s.subs (kids more)) simple) loops (first_true (keeps_rules s x.0 loops) (all_keep (keep (kids more)) loops) keeps) a k l f (stands_front code.texts k c.texts (texts_in (codes (kids more))) texts))
+      (good_block more (second_true (is_simple s.subs x.0) (is_block_simple s.subs (kids more)) simple) loops (second_true (keeps_rules s x.0 loops) (all_keep (keep (kids more)) loops) keeps) (a + c.size) (k + length c.texts) l f
       (stands_back code.texts k c.texts (texts_in (codes (kids more))) texts))
 
   -- a test that leads to two addresses
@@ -239,7 +374,7 @@ module _ (laws : CodesLeaveValues) (code : Listing) (all : List Entry) (p : Part
   )
 
   -- a choice between two blocks
-  good_if : (e : ExprR) (x y : List Kid) (line : ℕ) → Good (if_code (expr_code e 0) (codes (kids x)) (codes (kids y))) (simple_layer (StmtR-F.If line e (map is_simple (kids x)) (map is_simple (kids y)))) (rule_layer s (StmtR-F.If line e (keep (kids x)) (keep (kids y))))
+  good_if : (e : ExprR) (x y : List Kid) (line : ℕ) → Good (if_code (expr_code e 0) (codes (kids x)) (codes (kids y))) (simple_layer s.subs (StmtR-F.If line e (map (is_simple s.subs) (kids x)) (map (is_simple s.subs) (kids y)))) (rule_layer s (StmtR-F.If line e (keep (kids x)) (keep (kids y))))
   good_if e x y line simple loops keeps a k l f texts =
       let xs = kids x in
       let ys = kids y in
@@ -254,12 +389,12 @@ module _ (laws : CodesLeaveValues) (code : Listing) (all : List Entry) (p : Part
       let j = k + length (texts_in (codes xs)) in
       let by = block (codes ys) second j in
       let tail = bx ++ (instr.Go end ∷ by) in
-      let blocks = second_true (is_plain e) (is_block_simple xs && is_block_simple ys) simple in
+      let blocks = second_true (is_plain e) (is_block_simple s.subs xs && is_block_simple s.subs ys) simple in
       let both = first_true (is_logical (kind_of s e) && all_keep (keep xs) loops) (all_keep (keep ys) loops) keeps in
       let kind = has_some Logical (kind_of s e) (first_true (is_logical (kind_of s e)) (all_keep (keep xs) loops) both) in
-      let value = value_piece e 0 a kind.0 h kind.1 (omega (arith, plain_none e (first_true (is_plain e) (is_block_simple xs && is_block_simple ys) simple))) in
-      let px = good_block x (first_true (is_block_simple xs) (is_block_simple ys) blocks) loops (second_true (is_logical (kind_of s e)) (all_keep (keep xs) loops) both) first k l f (stands_front code.texts k (texts_in (codes xs)) (texts_in (codes ys)) texts) in
-      let py = good_block y (second_true (is_block_simple xs) (is_block_simple ys) blocks) loops (second_true (is_logical (kind_of s e) && all_keep (keep xs) loops) (all_keep (keep ys) loops) keeps) second j l f (stands_back code.texts k (texts_in (codes xs)) (texts_in (codes ys)) texts) in
+      let value = value_piece e 0 a kind.0 h kind.1 (omega (arith, plain_none e (first_true (is_plain e) (is_block_simple s.subs xs && is_block_simple s.subs ys) simple))) in
+      let px = good_block x (first_true (is_block_simple s.subs xs) (is_block_simple s.subs ys) blocks) loops (second_true (is_logical (kind_of s e)) (all_keep (keep xs) loops) both) first k l f (stands_front code.texts k (texts_in (codes xs)) (texts_in (codes ys)) texts) in
+      let py = good_block y (second_true (is_block_simple s.subs xs) (is_block_simple s.subs ys) blocks) loops (second_true (is_logical (kind_of s e) && all_keep (keep xs) loops) (all_keep (keep ys) loops) keeps) second j l f (stands_back code.texts k (texts_in (codes xs)) (texts_in (codes ys)) texts) in
       let lx : behind ≡ first + length bx = omega (arith, sized_block xs first k) in
       let ly : end ≡ second + length by = omega (arith, sized_block ys second j) in
       let whole : a + length (E ++ (instr.Test second ∷ tail)) ≡ end = omega (arith, length-append E (instr.Test second ∷ tail), length-append bx (instr.Go end ∷ by), sized_block xs first k, sized_block ys second j) in
@@ -287,7 +422,7 @@ module _ (laws : CodesLeaveValues) (code : Listing) (all : List Entry) (p : Part
   begins_inner [] a h e has run = let f : false ≡ true = e in absurd (cc)
   begins_inner (i ∷ is) a h e has run = (record { inside = slice_get_within code.instrs a i has.0; stands = run.0 }, (i, has.0, inner_still i (first_true (is_inner i) (all_inner is) e)))
 
-  good_while : (e : ExprR) (x : List Kid) (line : ℕ) → Good (while_code (expr_code e 0) (codes (kids x))) (simple_layer (StmtR-F.While line e (map is_simple (kids x)))) (rule_layer s (StmtR-F.While line e (keep (kids x))))
+  good_while : (e : ExprR) (x : List Kid) (line : ℕ) → Good (while_code (expr_code e 0) (codes (kids x))) (simple_layer s.subs (StmtR-F.While line e (map (is_simple s.subs) (kids x)))) (rule_layer s (StmtR-F.While line e (keep (kids x))))
   good_while e x line simple loops keeps a k l f texts =
       let xs = kids x in
       let h = plain l f in
@@ -299,8 +434,8 @@ module _ (laws : CodesLeaveValues) (code : Listing) (all : List Entry) (p : Part
       let bx = block (codes xs) first k in
       let tail = bx ++ (instr.Go a ∷ []) in
       let kind = has_some Logical (kind_of s e) (first_true (is_logical (kind_of s e)) (all_keep (keep xs) loops) keeps) in
-      let value = value_piece e 0 a kind.0 h kind.1 (omega (arith, plain_none e (first_true (is_plain e) (is_block_simple xs) simple))) in
-      let px = good_block x (second_true (is_plain e) (is_block_simple xs) simple) loops (second_true (is_logical (kind_of s e)) (all_keep (keep xs) loops) keeps) first k l f texts in
+      let value = value_piece e 0 a kind.0 h kind.1 (omega (arith, plain_none e (first_true (is_plain e) (is_block_simple s.subs xs) simple))) in
+      let px = good_block x (second_true (is_plain e) (is_block_simple s.subs xs) simple) loops (second_true (is_logical (kind_of s e)) (all_keep (keep xs) loops) keeps) first k l f texts in
       let lx : behind ≡ first + length bx = omega (arith, sized_block xs first k) in
       let whole : a + length (E ++ (instr.Test out ∷ tail)) ≡ out = omega (arith, length-append E (instr.Test out ∷ tail), length-append bx (instr.Go a ∷ []), sized_block xs first k) in
       record {
@@ -416,7 +551,7 @@ module _ (laws : CodesLeaveValues) (code : Listing) (all : List Entry) (p : Part
   weaker a h x = record { target = x.target; rests = x.rests; meets = tt }
 
   good_do : (v : LoopVariableR) (e1 e2 e3 : ExprR) (x : List Kid) (line : ℕ)
-      → Good (do_code v (bounds_code e1 e2 e3) (codes (kids x))) (simple_layer (StmtR-F.Do line v e1 e2 e3 (map is_simple (kids x)))) (rule_layer s (StmtR-F.Do line v e1 e2 e3 (keep (kids x))))
+      → Good (do_code v (bounds_code e1 e2 e3) (codes (kids x))) (simple_layer s.subs (StmtR-F.Do line v e1 e2 e3 (map (is_simple s.subs) (kids x)))) (rule_layer s (StmtR-F.Do line v e1 e2 e3 (keep (kids x))))
   good_do v e1 e2 e3 x line simple loops keeps a k l f texts =
       let xs = kids x in
       let h = plain l f in
@@ -433,7 +568,7 @@ module _ (laws : CodesLeaveValues) (code : Listing) (all : List Entry) (p : Part
       let two = instr.Loop ∷ store_of v ∷ [] in
       let rest = instr.Enter out ∷ (bx ++ turn) in
       let tail = instr.Loop ∷ store_of v ∷ rest in
-      let plains = first_true (is_plain e1 && (is_plain e2 && is_plain e3)) (is_block_simple xs) simple in
+      let plains = first_true (is_plain e1 && (is_plain e2 && is_plain e3)) (is_block_simple s.subs xs) simple in
       let plains' = second_true (is_plain e1) (is_plain e2 && is_plain e3) plains in
       let k4 = keeps in
       let k3 = first_true (may_count s loops v && is_integer (kind_of s e1) && is_integer (kind_of s e2) && is_integer (kind_of s e3)) (all_keep (keep xs) (v ∷ loops)) k4 in
@@ -442,7 +577,7 @@ module _ (laws : CodesLeaveValues) (code : Listing) (all : List Entry) (p : Part
       let counts = first_true (may_count s loops v) (is_integer (kind_of s e1)) k1 in
       let bounds = bounds_piece e1 e2 e3 a l f (first_true (is_plain e1) (is_plain e2 && is_plain e3) plains) (first_true (is_plain e2) (is_plain e3) plains') (second_true (is_plain e2) (is_plain e3) plains')
       (second_true (may_count s loops v) (is_integer (kind_of s e1)) k1) (second_true (may_count s loops v && is_integer (kind_of s e1)) (is_integer (kind_of s e2)) k2) (second_true (may_count s loops v && is_integer (kind_of s e1) && is_integer (kind_of s e2)) (is_integer (kind_of s e3)) k3) in
-      let px = good_block x (second_true (is_plain e1 && (is_plain e2 && is_plain e3)) (is_block_simple xs) simple) (v ∷ loops)
+      let px = good_block x (second_true (is_plain e1 && (is_plain e2 && is_plain e3)) (is_block_simple s.subs xs) simple) (v ∷ loops)
       (second_true (may_count s loops v && is_integer (kind_of s e1) && is_integer (kind_of s e2) && is_integer (kind_of s e3)) (all_keep (keep xs) (v ∷ loops)) k4) top k (suc l) f texts in
       let opening = piece_seq code all p true true true (instr.Loop ∷ []) (store_of v ∷ []) c (c + 1) h3 (with_operand i) i refl (inner_piece code all p instr.Loop c h3 (with_operand i) refl refl refl)
       (inner_piece code all p (store_of v) (c + 1) (with_operand i) i (store_inner v) (store_operands v loops counts) (store_shape v loops (suc l) f counts)) in
@@ -473,7 +608,7 @@ module _ (laws : CodesLeaveValues) (code : Listing) (all : List Entry) (p : Part
       }
 
   -- any statement
-  good_layer : (y : StmtR-F Kid) → Good (stmt_layer (map-StmtR StmtR StmtCode stmt_code (map-StmtR Kid StmtR (λ x. x.0) y))) (simple_layer (map-StmtR StmtR Bool is_simple (map-StmtR Kid StmtR (λ x. x.0) y)))
+  good_layer : (y : StmtR-F Kid) → Good (stmt_layer (map-StmtR StmtR StmtCode stmt_code (map-StmtR Kid StmtR (λ x. x.0) y))) (simple_layer s.subs (map-StmtR StmtR Bool (is_simple s.subs) (map-StmtR Kid StmtR (λ x. x.0) y)))
       (rule_layer s (map-StmtR StmtR Keeps (keeps_rules s) (map-StmtR Kid StmtR (λ x. x.0) y)))
   good_layer (StmtR-F.Assign line (variable.Scalar o) e) = λ simple loops keeps a k l f texts.
       piece_weaker code all p false _ a (plain l f) (plain l f) (assign_scalar o e a l f simple (first_true (agree_in_kind (scalar_kind (slice_get s.objects o)) (kind_of s e)) (free_object loops o) keeps))
@@ -488,22 +623,24 @@ module _ (laws : CodesLeaveValues) (code : Listing) (all : List Entry) (p : Part
   good_layer (StmtR-F.If line e x y) = good_if e x y line
   good_layer (StmtR-F.Do line v e1 e2 e3 x) = good_do v e1 e2 e3 x line
   good_layer (StmtR-F.While line e x) = good_while e x line
+  good_layer (StmtR-F.Call line i xs) = λ simple loops keeps a k l f texts.
+      piece_weaker code all p false _ a (plain l f) (plain l f) (whole_call loops i (slice_get s.subs i) xs a l f refl (first_true (all_true (map is_actual_plain xs)) (fits_called (slice_get s.subs i) xs) simple) keeps)
   good_layer _ = λ simple. let f : false ≡ true = simple in absurd (cc)
 
-  good : (x : StmtR) → Good (stmt_code x) (is_simple x) (keeps_rules s x)
-  good = ind-StmtR (λ x. Good (stmt_code x) (is_simple x) (keeps_rules s x)) (λ x y is.
-      let P : StmtR-F StmtR → Type 0 = λ z. Good (stmt_code (roll-StmtR z)) (is_simple (roll-StmtR z)) (keeps_rules s (roll-StmtR z)) in
+  good : (x : StmtR) → Good (stmt_code x) (is_simple s.subs x) (keeps_rules s x)
+  good = ind-StmtR (λ x. Good (stmt_code x) (is_simple s.subs x) (keeps_rules s x)) (λ x y is.
+      let P : StmtR-F StmtR → Type 0 = λ z. Good (stmt_code (roll-StmtR z)) (is_simple s.subs (roll-StmtR z)) (keeps_rules s (roll-StmtR z)) in
       let z : StmtR-F StmtR = map-StmtR Kid StmtR (λ x. x.0) y in
-      let A : StmtCode → Type 0 = λ c. Good c (is_simple (roll-StmtR z)) (keeps_rules s (roll-StmtR z)) in
+      let A : StmtCode → Type 0 = λ c. Good c (is_simple s.subs (roll-StmtR z)) (keeps_rules s (roll-StmtR z)) in
       let B : Bool → Type 0 = λ b. Good (stmt_layer (map-StmtR StmtR StmtCode stmt_code z)) b (keeps_rules s (roll-StmtR z)) in
-      let C : Keeps → Type 0 = λ r. Good (stmt_layer (map-StmtR StmtR StmtCode stmt_code z)) (simple_layer (map-StmtR StmtR Bool is_simple z)) r in
-      subst P is (subst A (sym (fold-roll-StmtR StmtCode stmt_layer z)) (subst B (sym (fold-roll-StmtR Bool simple_layer z)) (subst C (sym (fold-roll-StmtR Keeps (rule_layer s) z)) (good_layer y)))))
+      let C : Keeps → Type 0 = λ r. Good (stmt_layer (map-StmtR StmtR StmtCode stmt_code z)) (simple_layer s.subs (map-StmtR StmtR Bool (is_simple s.subs) z)) r in
+      subst P is (subst A (sym (fold-roll-StmtR StmtCode stmt_layer z)) (subst B (sym (fold-roll-StmtR Bool (simple_layer s.subs) z)) (subst C (sym (fold-roll-StmtR Keeps (rule_layer s) z)) (good_layer y)))))
 
   -- the statements of a part
-  pub body_piece : (x : List StmtR) → is_block_simple x ≡ true → list_all (λ statement. keeps_rules s statement []) x ≡ true → (a k l f : ℕ) → StandsAt code.texts k (texts_in (codes x)) → Piece code all p false false (block (codes x) a k) a (plain l f) (plain l f)
+  pub body_piece : (x : List StmtR) → is_block_simple s.subs x ≡ true → list_all (λ statement. keeps_rules s statement []) x ≡ true → (a k l f : ℕ) → StandsAt code.texts k (texts_in (codes x)) → Piece code all p false false (block (codes x) a k) a (plain l f) (plain l f)
   body_piece [] simple keeps a k l f texts = piece_none code all p false a (plain l f)
   body_piece (x ∷ more) simple keeps a k l f texts =
       let c = stmt_code x in
       piece_seq code all p false false false (c.code a k) _ a (a + c.size) (plain l f) (plain l f) (plain l f) (omega (arith, sized x a k))
-      (good x (first_true (is_simple x) (is_block_simple more) simple) [] (first_true (keeps_rules s x []) (list_all (λ statement. keeps_rules s statement []) more) keeps) a k l f (stands_front code.texts k c.texts (texts_in (codes more)) texts))
-      (body_piece more (second_true (is_simple x) (is_block_simple more) simple) (second_true (keeps_rules s x []) (list_all (λ statement. keeps_rules s statement []) more) keeps) (a + c.size) (k + length c.texts) l f (stands_back code.texts k c.texts (texts_in (codes more)) texts))
+      (good x (first_true (is_simple s.subs x) (is_block_simple s.subs more) simple) [] (first_true (keeps_rules s x []) (list_all (λ statement. keeps_rules s statement []) more) keeps) a k l f (stands_front code.texts k c.texts (texts_in (codes more)) texts))
+      (body_piece more (second_true (is_simple s.subs x) (is_block_simple s.subs more) simple) (second_true (keeps_rules s x []) (list_all (λ statement. keeps_rules s statement []) more) keeps) (a + c.size) (k + length c.texts) l f (stands_back code.texts k c.texts (texts_in (codes more)) texts))

@@ -4,6 +4,8 @@ use Rattle.std.specs.Prelude.{◌≡◌, ℕ, ◌+◌, List, [], ◌∷◌, ◌+
 use Rattle.caf_program.specs.Expressions.{count_all}
 use Rattle.caf_program.specs.Value.{count}
 use Rattle.caf_program.specs.declared.expr.ExprR.{ExprR}
+use Rattle.caf_program.specs.declared.parts.ActualR.{ActualR}
+use Rattle.caf_program.specs.declared.parts.ActualR.TheVariants as actual
 use Rattle.caf_program.specs.declared.parts.PrintR.{PrintR}
 use Rattle.caf_program.specs.declared.parts.PrintR.TheVariants as part
 use Rattle.caf_program.specs.declared.parts.VariableR.{VariableR}
@@ -13,11 +15,12 @@ use Rattle.caf_program.specs.declared.stmt.LoopVariableR.TheVariants as loop_var
 use Rattle.caf_program.specs.declared.stmt.StmtR.{StmtR}
 use Rattle.caf_program.specs.declared.stmt.StmtR.TheOpen.{StmtR-F}
 use Rattle.caf_program.specs.declared.stmt.StmtR.TheFolds.{fold-StmtR}
-use Rattle.caf_treestep.specs.Evaluated.{held_by_part}
+use Rattle.caf_source.specs.Evaluated.{held_by_actual, held_by_part}
 use Rattle.caf_code.specs.declared.instr.Arithmetic.TheVariants as arithmetic
 use Rattle.caf_code.specs.declared.instr.CellUse.TheVariants as cell
 use Rattle.caf_code.specs.declared.instr.Instr.{Instr}
 use Rattle.caf_code.specs.declared.instr.Instr.TheVariants as instr
+use Rattle.caf_code.specs.declared.instr.OutForm.TheVariants as out
 use Rattle.caf_code.specs.declared.instr.Printed.TheVariants as printed
 use Rattle.caf_code.specs.declared.instr.Reach.TheVariants as reach
 use Rattle.caf_exprgen.specs.ExprCode.{expr_code}
@@ -58,6 +61,25 @@ assign_code (variable.Scalar o) e = expr_code e 0 ++ (instr.Store reach.Scalar o
 assign_code (variable.Local k) e = expr_code e 0 ++ (instr.Cell cell.Set k ∷ instr.Next ∷ [])
 assign_code (variable.Element o i) e = expr_code i 0 ++ (expr_code e (0 + count_all (i ∷ [])) ++ (instr.Store reach.Element o ∷ instr.Next ∷ []))
 assign_code _ e = instr.Next ∷ []
+
+-- an element and the place of the element, each behind its subscript
+abbrev pub element_code : ℕ → ExprR → ℕ → List Instr
+element_code o i at = expr_code i at ++ (instr.Load reach.Element o ∷ (expr_code i at ++ (instr.Out (out.Element o) ∷ [])))
+
+-- An actual: its value, and for a variable the place where its dummy is copied out to
+abbrev pub actual_code : ActualR → ℕ → List Instr
+actual_code (actual.Value e) at = expr_code e at
+actual_code (actual.Scalar o) at = instr.Load reach.Scalar o ∷ instr.Out (out.Scalar o) ∷ []
+actual_code (actual.Local k) at = instr.Cell cell.Get k ∷ instr.Out (out.Local k) ∷ []
+actual_code (actual.Element o i) at = element_code o i at
+
+-- the actuals from the left, where the first value that they hold is held at a place
+abbrev pub actuals_code : List ActualR → ℕ → List Instr
+actuals_code [] at = []
+actuals_code (x ∷ rest) at = actual_code x at ++ actuals_code rest (at + held_by_actual x)
+
+abbrev pub call_code : ℕ → List ActualR → List Instr
+call_code f actuals = actuals_code actuals 0 ++ (instr.Call f ∷ [])
 
 -- a part of a line, where the first value that it holds is held at a place, and its text has a number
 abbrev pub part_code : PrintR → ℕ → ℕ → List Instr
@@ -134,6 +156,7 @@ stmt_layer (StmtR-F.Print line parts) = print_code parts
 stmt_layer (StmtR-F.If line e x y) = if_code (expr_code e 0) x y
 stmt_layer (StmtR-F.Do line v first last step x) = do_code v (bounds_code first last step) x
 stmt_layer (StmtR-F.While line e x) = while_code (expr_code e 0) x
+stmt_layer (StmtR-F.Call line f actuals) = fixed (call_code f actuals)
 stmt_layer _ = fixed (instr.Next ∷ [])
 
 abbrev pub stmt_code : StmtR → StmtCode

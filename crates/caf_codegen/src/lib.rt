@@ -5,15 +5,14 @@
 #![tactic(auto)]
 
 mod assign;
+mod call;
 mod emit;
 mod law;
-mod made;
 mod print;
 mod program;
 mod statement;
 
 pub use law::made_codes_do_what_programs_say;
-pub use made::is_made;
 pub use program::compile;
 
 #[cfg(test)]

@@ -2,6 +2,7 @@ ghost use Rattle.std.specs.Prelude.{◌≡◌, ◌+◌, ◌<◌, ◌++◌, [], �
 ghost use Rattle.caf_codegen.specs.StmtCode.{block as block_code, bounds_code, codes, do_code, guarded, load_of, sizes, stmt_code, store_of, texts_in, turn_code};
 
 use crate::assign::gen_assign;
+use crate::call::gen_call;
 use crate::emit::{gen_value, place, put};
 use crate::print::gen_print;
 use caf_base::{Memory, Sequence, Text};
@@ -73,6 +74,7 @@ fn gen_statement(
             gen_guarded(alloc, body.as_slice(), start, code, texts)?;
             Ok(())
         }
+        StmtR::Call { sub, actuals, .. } => gen_call(*sub, actuals.as_slice(), code),
         _ => put(code, Instr::Next),
     }
 }

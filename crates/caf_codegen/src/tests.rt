@@ -5,13 +5,14 @@ ghost use Rattle.caf_program.specs.declared.parts.PrintR.TheVariants as part;
 ghost use Rattle.caf_program.specs.declared.stmt.LoopVariableR.TheVariants as counter;
 ghost use Rattle.caf_program.specs.declared.stmt.StmtR.TheVariants as stmt;
 
-use crate::{compile, is_made};
+use crate::compile;
 use caf_base::{BinaryOperator, Kind, Memory, Object, Sequence, Text};
 use caf_code::print_listing;
 use caf_program::{
-    Accepted, DummyR, ExprR, Intent, LoopVariableR, PrintR, Program, StmtR, SubR, ValueKind,
-    VariableR,
+    Accepted, ActualR, DummyR, ExprR, Intent, LoopVariableR, PrintR, Program, StmtR, SubR,
+    ValueKind, VariableR,
 };
+use caf_source::is_built;
 use sqlite_items::{Boxed, Items};
 use std::alloc::{AllocError, Global};
 use std::process::Abort;
@@ -19,7 +20,7 @@ use std::test::Fail;
 
 /// Expects this listing of a program's code.
 fn expect<R: Abort>(rt: &R, alloc: Global, a: &Accepted, wanted: &[u8]) -> Result<(), Memory> {
-    assert!(rt; is_made(a));
+    assert!(rt; is_built(a));
     let code = compile(alloc, a)?;
     assert_eq!(rt; print_listing(alloc, &code)?.as_slice(), wanted);
     Ok(())
@@ -214,5 +215,52 @@ fn a_subroutine_stands_behind_the_end_of_the_program(rt: HostRuntime) -> Result<
         0: close\n1: halt\n2: local 0\n3: setlocal 1\n4: next\n\
         5: local 0\n6: local 1\n7: storex 0\n8: next\n9: ret\n";
     expect(&rt, alloc, &with_subroutine(alloc)?, wanted.as_slice())?;
+    Ok(())
+}
+
+/// A call `f(a(2))` of a subroutine with an `intent(inout)` dummy that does nothing.
+fn copying_out(alloc: Global) -> Result<Accepted, Memory> {
+    let array = Object {
+        kind: Kind::Integer,
+        lower: 0,
+        extent: 4,
+        shared: false,
+    };
+    let mut dummies = Sequence::new(alloc);
+    dummies.push(DummyR {
+        name: Text::copy_of(alloc, "n")?,
+        kind: ValueKind::Integer,
+        intent: Intent::InOut,
+    })?;
+    let mut subs = Sequence::new(alloc);
+    subs.push(SubR {
+        name: Text::copy_of(alloc, "f")?,
+        dummies,
+        locals: Sequence::new(alloc),
+        body: Items::new(alloc),
+    })?;
+    let mut actuals = Items::new(alloc);
+    actuals.push(ActualR::Element(0, ExprR::Number(2)))?;
+    let mut body = Items::new(alloc);
+    body.push(StmtR::Call {
+        line: 2,
+        sub: 0,
+        actuals,
+    })?;
+    Ok(Accepted::of(Program {
+        objects: Sequence::from_slice(alloc, &[array])?,
+        names: names(alloc)?,
+        subs,
+        body,
+    }))
+}
+
+#[test]
+fn a_call_fixes_the_places_of_its_dummies(rt: HostRuntime) -> Result<(), Fail> {
+    let alloc = rt.alloc();
+    // Worked by hand after the table of instructions.
+    let wanted = b"caf code 3\nobject 0 integer 0 4 own\nsub 0 7 o 0\n\
+        0: push 2\n1: loadx 0\n2: push 2\n3: outx 0\n4: call 0\n5: close\n6: halt\n7: ret\n";
+    expect(&rt, alloc, &copying_out(alloc)?, wanted.as_slice())?;
     Ok(())
 }
