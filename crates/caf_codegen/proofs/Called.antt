@@ -1,12 +1,11 @@
 -- A call, and the end of a called subroutine.
 use mathlib.Core.List.{reverse-reverse, reverse_aux, reverse_aux-eq}
-use Rattle.std.proofs.Common.{◌≡◌, ℕ, zero, suc, ◌+◌, ◌≤◌, true, false, List, [], ◌∷◌, ◌++◌, map, length, Option, Some, None, Result, Ok, Err, ℤ, pos, refl, sym, ap, ◌∙◌, subst, arith, append_assoc, append-nil, length-append}
-use Rattle.std.specs.Prelude.{Bool, ◌&&◌, not, nat_le, drop, replicate, reverse, slice_get, slice_index_or, take, if◌then◌else◌}
+use Rattle.std.proofs.Common.{◌≡◌, ℕ, suc, ◌+◌, true, false, List, [], ◌∷◌, ◌++◌, map, length, Option, Some, None, Result, Ok, Err, ℤ, pos, refl, sym, ap, ◌∙◌, subst, arith, append_assoc, append-nil, length-append}
+use Rattle.std.specs.Prelude.{Bool, not, nat_le, drop, replicate, reverse, slice_get, slice_index_or, take, if◌then◌else◌}
 use Rattle.std.proofs.Math.Seq.{drop-length, take-length}
 use Rattle.std.proofs.lemmas.Bool.{le-leb}
 use Rattle.std.proofs.lemmas.List.{length-map, length-reverse}
 use Rattle.std.specs.Result.{result_unwrap_or}
-use Rattle.caf_base.specs.After.{After}
 use Rattle.caf_base.specs.Arithmetic.{Answer}
 use Rattle.caf_base.specs.Element.{element_at, has_index}
 use Rattle.caf_base.specs.ImageMemory.{ImageMemory}
@@ -19,7 +18,6 @@ use Rattle.caf_base.specs.declared.trap.Trap.TheVariants as trap
 use Rattle.caf_program.specs.Seen.{Seen, element, local, scalar}
 use Rattle.caf_program.specs.Ships.{is_in}
 use Rattle.caf_program.specs.Value.{value_at}
-use Rattle.caf_program.specs.declared.expr.ExprR.{ExprR}
 use Rattle.caf_program.specs.declared.parts.ActualR.{ActualR}
 use Rattle.caf_program.specs.declared.parts.ActualR.TheVariants as actual
 use Rattle.caf_program.specs.declared.program.DummyR.{DummyR}
@@ -28,7 +26,7 @@ use Rattle.caf_program.specs.declared.program.Intent.TheVariants.{In, InOut}
 use Rattle.caf_program.specs.declared.program.Program.{Program}
 use Rattle.caf_program.specs.declared.program.SubR.{SubR}
 use Rattle.caf_source.specs.Evaluated.{argument_of, arguments_of, held_by_actual, out_at, outs_from}
-use Rattle.caf_source.specs.Step.{At, Variables, called, cells_of_call, copies_out as tree_copies_out, frame_of, given, goes_in, opened, put, returns_to, store}
+use Rattle.caf_source.specs.Step.{Variables, called, copies_out as tree_copies_out, frame_of, given, goes_in, opened, put, returns_to}
 use Rattle.caf_source.specs.Task.{all_of}
 use Rattle.caf_source.specs.declared.argument.Argument.{Argument}
 use Rattle.caf_source.specs.declared.task.Frame.{Frame as TreeFrame}
@@ -40,7 +38,7 @@ use Rattle.caf_source.specs.declared.todo.Todo.TheVariants as item
 use Rattle.caf_code.specs.Calls.{copies_out, copies_to, leaves, new_frame, opens, paired, returns}
 use Rattle.caf_code.specs.Did.{Did, Goes, Stops, Fails, Lacks, found, on_arguments, there}
 use Rattle.caf_code.specs.Step.{does, runs}
-use Rattle.caf_code.specs.Task.{Frame, OpenCall, Task, past}
+use Rattle.caf_code.specs.Task.{Frame, OpenCall, Task}
 use Rattle.caf_code.specs.declared.instr.CellUse.TheVariants as cell
 use Rattle.caf_code.specs.declared.instr.Instr.{Instr}
 use Rattle.caf_code.specs.declared.instr.Instr.TheVariants as instr
@@ -48,7 +46,6 @@ use Rattle.caf_code.specs.declared.instr.OutForm.TheVariants as out
 use Rattle.caf_code.specs.declared.instr.Reach.TheVariants as reach
 use Rattle.caf_code.specs.declared.listing.Listing.{Listing}
 use Rattle.caf_code.specs.declared.listing.SubCode.{SubCode}
-use Rattle.caf_code.specs.declared.task.CopyOut.{CopyOut}
 use Rattle.caf_code.specs.declared.task.CopyTarget.{CopyTarget}
 use Rattle.caf_code.specs.declared.task.CopyTarget.TheVariants as copied
 use Rattle.caf_code.specs.declared.task.Loop.{Loop}
@@ -64,7 +61,7 @@ use Rattle.caf_codegen.proofs.Both.{first_true, second_true}
 use Rattle.caf_codegen.proofs.Fits.{fits_called, fits_intent, fits_intents, is_block_simple}
 use Rattle.caf_codegen.proofs.Follows.{Continues, FrameEnd, OfCall, OfMain, OfShip, at_return, block_continues}
 use Rattle.caf_codegen.proofs.Places.{has_behind, has_front}
-use Rattle.caf_codegen.proofs.Related.{AreCallers, Around, CanPut, CanPutAll, HasIndex, IsEnd, Leads, Related, SameFor, Setting, code_at, found_ends, frame_at, leads_answer_is, leads_last, leads_on, leads_value_is, out_of, ran_same, step_by, target_of, trap_same, tree_at}
+use Rattle.caf_codegen.proofs.Related.{AreCallers, Around, CanPut, CanPutAll, HasIndex, IsEnd, Leads, Related, SameFor, Setting, code_at, found_ends, frame_at, leads_answer_is, leads_last, leads_on, leads_value_is, out_of, ran_same, step_by, target_of, trap_same}
 use Rattle.caf_codegen.proofs.Sized.{sized_block}
 
 -- what a subroutine has in the code

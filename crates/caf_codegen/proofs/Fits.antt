@@ -1,5 +1,5 @@
 -- The statements of which code is made, with calls whose actuals fit the dummies.
-use Rattle.std.proofs.Common.{◌≡◌, ℕ, true, false, List, [], ◌∷◌, map, Option, Some, None, refl, sym, ap, ◌∙◌, subst}
+use Rattle.std.proofs.Common.{◌≡◌, true, false, List, [], ◌∷◌, map, Option, Some, None, refl, sym, subst}
 use Rattle.std.specs.Prelude.{Bool, ◌&&◌, slice_get}
 use Rattle.std.specs.List.{list_all}
 use Rattle.caf_program.specs.Accepted.{IsAccepted, sub_keeps_rules, sub_scope, main_scope}
