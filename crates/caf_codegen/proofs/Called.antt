@@ -25,16 +25,16 @@ use Rattle.caf_program.specs.declared.program.Intent.{Intent}
 use Rattle.caf_program.specs.declared.program.Intent.TheVariants.{In, InOut}
 use Rattle.caf_program.specs.declared.program.Program.{Program}
 use Rattle.caf_program.specs.declared.program.SubR.{SubR}
-use Rattle.caf_source.specs.Evaluated.{argument_of, arguments_of, held_by_actual, out_at, outs_from}
-use Rattle.caf_source.specs.Step.{Variables, called, copies_out as tree_copies_out, frame_of, given, goes_in, opened, put, returns_to}
-use Rattle.caf_source.specs.Task.{all_of}
-use Rattle.caf_source.specs.declared.argument.Argument.{Argument}
-use Rattle.caf_source.specs.declared.task.Frame.{Frame as TreeFrame}
-use Rattle.caf_source.specs.declared.todo.CopyOut.{CopyOut as TreeCopyOut}
-use Rattle.caf_source.specs.declared.todo.Target.{Target}
-use Rattle.caf_source.specs.declared.todo.Target.TheVariants as target
-use Rattle.caf_source.specs.declared.todo.Todo.{Todo}
-use Rattle.caf_source.specs.declared.todo.Todo.TheVariants as item
+use Rattle.caf_treestep.specs.Evaluated.{argument_of, arguments_of, held_by_actual, out_at, outs_from}
+use Rattle.caf_treestep.specs.Step.{Variables, called, copies_out as tree_copies_out, frame_of, given, goes_in, opened, put, returns_to}
+use Rattle.caf_treestep.specs.Task.{all_of}
+use Rattle.caf_treestep.specs.declared.argument.Argument.{Argument}
+use Rattle.caf_treestep.specs.declared.task.Frame.{Frame as TreeFrame}
+use Rattle.caf_treestep.specs.declared.todo.CopyOut.{CopyOut as TreeCopyOut}
+use Rattle.caf_treestep.specs.declared.todo.Target.{Target}
+use Rattle.caf_treestep.specs.declared.todo.Target.TheVariants as target
+use Rattle.caf_treestep.specs.declared.todo.Todo.{Todo}
+use Rattle.caf_treestep.specs.declared.todo.Todo.TheVariants as item
 use Rattle.caf_code.specs.Calls.{copies_out, copies_to, leaves, new_frame, opens, paired, returns}
 use Rattle.caf_code.specs.Did.{Did, Goes, Stops, Fails, Lacks, found, on_arguments, there}
 use Rattle.caf_code.specs.Step.{does, runs}

@@ -5,11 +5,11 @@ use Rattle.std.proofs.lemmas.Option.{slice_get_within}
 use Rattle.caf_program.specs.declared.stmt.LoopVariableR.{LoopVariableR}
 use Rattle.caf_program.specs.declared.stmt.LoopVariableR.TheVariants as loop_variable
 use Rattle.caf_program.specs.declared.stmt.StmtR.{StmtR}
-use Rattle.caf_source.specs.Task.{all_of}
+use Rattle.caf_treestep.specs.Task.{all_of}
 use Rattle.caf_program.specs.declared.program.Program.{Program}
-use Rattle.caf_source.specs.declared.todo.CopyOut.{CopyOut}
-use Rattle.caf_source.specs.declared.todo.Todo.{Todo}
-use Rattle.caf_source.specs.declared.todo.Todo.TheVariants as item
+use Rattle.caf_treestep.specs.declared.todo.CopyOut.{CopyOut}
+use Rattle.caf_treestep.specs.declared.todo.Todo.{Todo}
+use Rattle.caf_treestep.specs.declared.todo.Todo.TheVariants as item
 use Rattle.caf_code.specs.Step.{followed, go_of, settled}
 use Rattle.caf_code.specs.declared.instr.Instr.{Instr}
 use Rattle.caf_code.specs.declared.instr.Instr.TheVariants as instr

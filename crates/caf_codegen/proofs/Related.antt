@@ -20,9 +20,9 @@ use Rattle.caf_code.specs.Task.{Frame, OpenCall, Task, past}
 use Rattle.caf_base.specs.Element.{has_index}
 use Rattle.caf_base.specs.declared.object.Object.{Object}
 use Rattle.caf_program.specs.declared.program.Program.{Program}
-use Rattle.caf_source.specs.declared.todo.CopyOut.{CopyOut as TreeCopyOut}
-use Rattle.caf_source.specs.declared.todo.Target.{Target}
-use Rattle.caf_source.specs.declared.todo.Target.TheVariants as target
+use Rattle.caf_treestep.specs.declared.todo.CopyOut.{CopyOut as TreeCopyOut}
+use Rattle.caf_treestep.specs.declared.todo.Target.{Target}
+use Rattle.caf_treestep.specs.declared.todo.Target.TheVariants as target
 use Rattle.caf_code.specs.declared.task.CopyOut.{CopyOut}
 use Rattle.caf_code.specs.declared.task.CopyTarget.{CopyTarget}
 use Rattle.caf_code.specs.declared.task.CopyTarget.TheVariants as copied

@@ -18,9 +18,9 @@ use Rattle.caf_program.specs.declared.stmt.StmtR.TheOpen.{StmtR-F}
 use Rattle.caf_program.specs.declared.stmt.StmtR.TheFolds.{fold_out-StmtR, map-StmtR}
 use Rattle.caf_program.specs.declared.stmt.StmtR.TheViews.{out-StmtR}
 use Rattle.caf_source.specs.Built.{all_true, is_actual_plain, is_part_plain, is_plain}
-use Rattle.caf_source.specs.Step.{does, does_last, does_next}
-use Rattle.caf_source.specs.declared.todo.Todo.{Todo}
-use Rattle.caf_source.specs.declared.todo.Todo.TheVariants as item
+use Rattle.caf_treestep.specs.Step.{does, does_last, does_next}
+use Rattle.caf_treestep.specs.declared.todo.Todo.{Todo}
+use Rattle.caf_treestep.specs.declared.todo.Todo.TheVariants as item
 use Rattle.caf_code.specs.Step.{runs}
 use Rattle.caf_code.specs.declared.task.Loop.{Loop}
 use Rattle.caf_exprgen.specs.Placed.{HasAt}

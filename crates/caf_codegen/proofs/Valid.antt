@@ -35,7 +35,7 @@ use Rattle.caf_program.specs.declared.stmt.StmtR.TheOpen.{StmtR-F}
 use Rattle.caf_program.specs.declared.stmt.StmtR.TheFolds.{ind-StmtR, fold-roll-StmtR, map-StmtR}
 use Rattle.caf_program.specs.declared.stmt.StmtR.TheViews.{roll-StmtR}
 use Rattle.caf_source.specs.Built.{all_true, is_actual_plain, is_part_plain, is_plain}
-use Rattle.caf_source.specs.Evaluated.{held_by_actual, held_by_part}
+use Rattle.caf_treestep.specs.Evaluated.{held_by_actual, held_by_part}
 use Rattle.caf_code.specs.Rules.{has_operands, is_data, is_data_kind, of_kind, LeadOn}
 use Rattle.caf_code.specs.Shapes.{Part, Shape, cells_of, next_shape, only_if, copied_count, copied_in, dummies_in, marks, then_shape, way, with_height, without, pops}
 use Rattle.caf_code.specs.Step.{go_of}

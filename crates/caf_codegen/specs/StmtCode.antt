@@ -15,7 +15,7 @@ use Rattle.caf_program.specs.declared.stmt.LoopVariableR.TheVariants as loop_var
 use Rattle.caf_program.specs.declared.stmt.StmtR.{StmtR}
 use Rattle.caf_program.specs.declared.stmt.StmtR.TheOpen.{StmtR-F}
 use Rattle.caf_program.specs.declared.stmt.StmtR.TheFolds.{fold-StmtR}
-use Rattle.caf_source.specs.Evaluated.{held_by_actual, held_by_part}
+use Rattle.caf_treestep.specs.Evaluated.{held_by_actual, held_by_part}
 use Rattle.caf_code.specs.declared.instr.Arithmetic.TheVariants as arithmetic
 use Rattle.caf_code.specs.declared.instr.CellUse.TheVariants as cell
 use Rattle.caf_code.specs.declared.instr.Instr.{Instr}

@@ -1,6 +1,6 @@
 ghost use Rattle.std.specs.Prelude.{◌≡◌, ◌+◌, ◌++◌, [], ◌∷◌, OnOk, IfOk};
 ghost use Rattle.caf_program.specs.Value.{count};
-ghost use Rattle.caf_source.specs.Evaluated.{held_by_actual};
+ghost use Rattle.caf_treestep.specs.Evaluated.{held_by_actual};
 ghost use Rattle.caf_codegen.specs.StmtCode.{actual_code, actuals_code, call_code, element_code};
 
 use crate::emit::{gen_value, put};
