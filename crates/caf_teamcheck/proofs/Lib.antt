@@ -1,0 +1,5 @@
+mod Broken
+mod Flat
+mod Found
+mod Paths
+mod Plain

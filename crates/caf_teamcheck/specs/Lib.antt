@@ -1,0 +1,5 @@
+pub mod Spawned
+pub mod Marks
+pub mod Sites
+pub mod Whole
+pub mod Faults
