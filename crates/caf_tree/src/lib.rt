@@ -1,6 +1,15 @@
 //! A program as it is written: units, statements and expressions.
+//!
+//! Which tokens spell a unit is told in `specs/` by a relation with one case for each form of the grammar: `Forms` has
+//! the ways in which forms are put together, `Expressions`, `Statements` and `Units` the grammar, `Depth` how deep a
+//! unit nests, `Said` the tokens that a unit is printed with, `Text` its text, and `Unlined` which units are the
+//! same up to the lines. `tree` has the forms of the programs
+//! that are run so far.
 #![tactic(auto)]
 
+pub mod expr;
+pub mod stmt;
 mod tree;
+pub mod unit;
 
 pub use tree::{Expr, Operator, Printed, Stmt, Unit};
