@@ -85,13 +85,14 @@ good_narrow {A} {T} {W} {G} {n} R S h P Q p g = record {
   digs = g.digs;
 }
   where
-  stops : (ts : List Token) → Stops S ts → Stops R ts
-  stops [] s = tt
-  stops (t ∷ ts) s = h t.what s
-  narrow_fits : (a : A) (rest : List Token) (r : Outcome A) → Fits G R a rest r → Fits G S a rest r
-  narrow_fits a rest (Ok c) f = (f.0, λ s. f.1 (stops rest s))
-  narrow_fits a rest (Err Deep) f = λ g s. f g (stops rest s)
-  narrow_fits a rest (Err Syntax) f = f
+    stops : (ts : List Token) → Stops S ts → Stops R ts
+    stops [] s = tt
+    stops (t ∷ ts) s = h t.what s
+
+    narrow_fits : (a : A) (rest : List Token) (r : Outcome A) → Fits G R a rest r → Fits G S a rest r
+    narrow_fits a rest (Ok c) f = (f.0, λ s. f.1 (stops rest s))
+    narrow_fits a rest (Err Deep) f = λ g s. f g (stops rest s)
+    narrow_fits a rest (Err Syntax) f = f
 
 -- a value, and then a mark that depends on it
 pub good_closed : {A : Type 0} {T : What → Bool} {W : What → ℕ} {G : Type 0} {n : ℕ} (Sp S : What → Bool) (P Q : A → List Token → List Token → Type 0) (D : A → Unit {0} → List Token → List Token → Type 0)
@@ -113,15 +114,15 @@ good_closed {A} {T} {W} {G} {n} Sp S P Q D p d g h stops = record {
   digs = digs;
 }
   where
-  digs : (ts : List Token) → (p >>= (λ a. d a >>= (λ _. pure a))) ts ≡ Err Deep → n ≤ opened T W ts
-  digs ts e = go (bind_deep (p ts) _ e)
-    where
-    go : (p ts ≡ Err Deep) ⊎ ((a : A) × (mid : List Token) × (p ts ≡ Ok (a, mid)) × (and_then (d a mid) (λ u. pure a) ≡ Err Deep)) → n ≤ opened T W ts
-    go (inl x) = g.digs ts x
-    go (inr (a, mid, x, y)) =
-        let k : n ≤ opened T W mid = (h a).digs mid (make_deep (λ _. a) (d a mid) y) in
-        let l : opened T W mid ≤ opened T W ts = eats_opened T W ts mid (g.eats ts a mid x) in
-        omega arith
+    digs : (ts : List Token) → (p >>= (λ a. d a >>= (λ _. pure a))) ts ≡ Err Deep → n ≤ opened T W ts
+    digs ts e = go (bind_deep (p ts) _ e)
+      where
+        go : (p ts ≡ Err Deep) ⊎ ((a : A) × (mid : List Token) × (p ts ≡ Ok (a, mid)) × (and_then (d a mid) (λ u. pure a) ≡ Err Deep)) → n ≤ opened T W ts
+        go (inl x) = g.digs ts x
+        go (inr (a, mid, x, y)) =
+            let k : n ≤ opened T W mid = (h a).digs mid (make_deep (λ _. a) (d a mid) y) in
+            let l : opened T W mid ≤ opened T W ts = eats_opened T W ts mid (g.eats ts a mid x) in
+            omega arith
 
 -- what is spelled in forms that say the same
 pub good_same : {A : Type 0} {T : What → Bool} {W : What → ℕ} {G : Type 0} {n : ℕ} (S : What → Bool) (P Q U V : A → List Token → List Token → Type 0) (p : Reader A)

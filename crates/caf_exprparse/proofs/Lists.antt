@@ -316,9 +316,9 @@ tail_perhaps {A} T W G n Sp Sg S B P Q p i next weaker = record {
   weaker = weaker;
 }
   where
-  splits : (o : Option A) (mid rest : List Token) → Maybe Q o mid rest → Stops Sp mid ⊎ (mid ≡ rest)
-  splits None mid rest m = inr m
-  splits (Some a) mid rest m = inl (ahead_stops B Sp next mid (begins T W G n Sg S B P Q p i a mid rest m))
+    splits : (o : Option A) (mid rest : List Token) → Maybe Q o mid rest → Stops Sp mid ⊎ (mid ≡ rest)
+    splits None mid rest m = inr m
+    splits (Some a) mid rest m = inl (ahead_stops B Sp next mid (begins T W G n Sg S B P Q p i a mid rest m))
 
 -- what may be nothing, and then what may be nothing
 pub tail_then : {A B : Type 0} (T : What → Bool) (W : What → ℕ) (G : Type 0) (n : ℕ) (Sp Sm S : What → Bool) (P Q : A → List Token → List Token → Type 0) (U V : B → List Token → List Token → Type 0)
@@ -330,21 +330,23 @@ tail_then {A} {B} T W G n Sp Sm S P Q U V p q g h = record {
   weaker = λ w e. g.weaker w (h.weaker w e);
 }
   where
-  pure_total : (a : A) (r : Outcome B) → and_then {B = A × B} r (λ b. pure (a, b)) ≡ Err Syntax → r ≡ Err Syntax
-  pure_total a (Ok c) e = absurd (let no : ◌≡◌ {A = Outcome (A × B)} (Ok ((a, c.0), c.1)) (Err Syntax) = e in cc)
-  pure_total a (Err Syntax) e = refl
-  pure_total a (Err Deep) e = absurd (let no : ◌≡◌ {A = Outcome (A × B)} (Err Deep) (Err Syntax) = e in cc)
-  total : (ts : List Token) (r : Outcome A) → p ts ≡ r → and_then {B = A × B} r (λ a. q >>= (λ b. pure (a, b))) ≡ Err Syntax → ⊥
-  total ts (Ok c) e f = h.total c.1 (pure_total c.0 (q c.1) f)
-  total ts (Err Syntax) e f = g.total ts e
-  total ts (Err Deep) e f = let no : ◌≡◌ {A = Outcome (A × B)} (Err Deep) (Err Syntax) = f in cc
-  splits : (c : A × B) (mid end rest : List Token) → V c.1 end rest → Stops Sp mid ⊎ (mid ≡ end) → Stops Sp mid ⊎ (mid ≡ rest)
-  splits c mid end rest m (inl s) = inl s
-  splits c mid end rest m (inr e) = on (h.splits c.1 end rest m)
-    where
-    on : Stops Sm end ⊎ (end ≡ rest) → Stops Sp mid ⊎ (mid ≡ rest)
-    on (inl s) = inl (subst (Stops Sp) (sym e) (stops_weaker Sm Sp g.weaker end s))
-    on (inr f) = inr (e ∙ f)
+    pure_total : (a : A) (r : Outcome B) → and_then {B = A × B} r (λ b. pure (a, b)) ≡ Err Syntax → r ≡ Err Syntax
+    pure_total a (Ok c) e = absurd (let no : ◌≡◌ {A = Outcome (A × B)} (Ok ((a, c.0), c.1)) (Err Syntax) = e in cc)
+    pure_total a (Err Syntax) e = refl
+    pure_total a (Err Deep) e = absurd (let no : ◌≡◌ {A = Outcome (A × B)} (Err Deep) (Err Syntax) = e in cc)
+
+    total : (ts : List Token) (r : Outcome A) → p ts ≡ r → and_then {B = A × B} r (λ a. q >>= (λ b. pure (a, b))) ≡ Err Syntax → ⊥
+    total ts (Ok c) e f = h.total c.1 (pure_total c.0 (q c.1) f)
+    total ts (Err Syntax) e f = g.total ts e
+    total ts (Err Deep) e f = let no : ◌≡◌ {A = Outcome (A × B)} (Err Deep) (Err Syntax) = f in cc
+
+    splits : (c : A × B) (mid end rest : List Token) → V c.1 end rest → Stops Sp mid ⊎ (mid ≡ end) → Stops Sp mid ⊎ (mid ≡ rest)
+    splits c mid end rest m (inl s) = inl s
+    splits c mid end rest m (inr e) = on (h.splits c.1 end rest m)
+      where
+        on : Stops Sm end ⊎ (end ≡ rest) → Stops Sp mid ⊎ (mid ≡ rest)
+        on (inl s) = inl (subst (Stops Sp) (sym e) (stops_weaker Sm Sp g.weaker end s))
+        on (inr f) = inr (e ∙ f)
 
 make_syntax : {A B : Type 0} (f : A → B) (r : Outcome A) → and_then r (λ a. pure (f a)) ≡ Err Syntax → r ≡ Err Syntax
 make_syntax {A} {B} f (Ok c) e = absurd (let no : ◌≡◌ {A = Outcome B} (Ok (f c.0, c.1)) (Err Syntax) = e in cc)

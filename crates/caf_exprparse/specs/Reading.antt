@@ -93,6 +93,11 @@ abbrev pub next_of : List Token → Option What
 next_of [] = None
 next_of (t ∷ ts) = Some t.what
 
+-- the line of the next token, or 0
+abbrev pub line_at : List Token → ℕ
+line_at [] = 0
+line_at (t ∷ ts) = t.line
+
 abbrev pub second_of : List Token → Option What
 second_of [] = None
 second_of (t ∷ ts) = next_of ts

@@ -605,3 +605,43 @@ pub fn expression(alloc: Global, c: &mut Tokens<'_>, depth: u32) -> Result<Expr,
     }
     .expression_in(c)
 }
+
+/// `(expr)`, where so many levels may be opened.
+pub fn subscript(alloc: Global, c: &mut Tokens<'_>, depth: u32) -> Result<Expr, ParseFault>
+    ensures { Reads (r.subscript (r.inner depth) c.old) result c.new }
+{
+    Rules {
+        alloc,
+        depth,
+        inner,
+    }
+    .subscript(c)
+}
+
+/// `[rank @ team]`, where so many levels may be opened.
+pub fn place(alloc: Global, c: &mut Tokens<'_>, depth: u32) -> Result<Place<Expr>, ParseFault>
+    ensures { Reads (r.place (r.inner depth) c.old) result c.new }
+{
+    Rules {
+        alloc,
+        depth,
+        inner,
+    }
+    .place(c)
+}
+
+/// `name(subscript)[place]`, where so many levels may be opened.
+pub fn variable(
+    alloc: Global,
+    c: &mut Tokens<'_>,
+    depth: u32,
+) -> Result<Variable<Boxed<Expr>>, ParseFault>
+    ensures { Reads (r.variable (r.inner depth) c.old) result c.new }
+{
+    Rules {
+        alloc,
+        depth,
+        inner,
+    }
+    .variable(c)
+}

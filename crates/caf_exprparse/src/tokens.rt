@@ -79,6 +79,16 @@ impl<'a> Tokens<'a> {
         }
     }
 
+    /// The line of the next token, or 0 where none is left.
+    pub fn first_line(&self) -> u32
+        ensures { result ≡ reading.line_at self.now }
+    {
+        match self.left {
+            [token, ..] => token.line,
+            [] => 0,
+        }
+    }
+
     /// The line of the first token so far that didn't fit. The next one doesn't.
     pub fn fault_line(&mut self) -> u32
         ensures { self.new ≡ self.old }
@@ -142,6 +152,29 @@ impl<'a> Tokens<'a> {
                 What::Word(next) => next == word,
                 _ => false,
             },
+            [] => false,
+        }
+    }
+
+    /// Whether the next token is this name.
+    pub fn sees_name(&self, name: &str) -> bool
+        ensures { result ≡ reading.ahead (λ w. is_some (token.is_name name.now w)) self.now }
+    {
+        match self.left {
+            [token, ..] => match &token.what {
+                What::Name(next) => next.as_str() == name,
+                _ => false,
+            },
+            [] => false,
+        }
+    }
+
+    /// Whether the next token is a text.
+    pub fn sees_text(&self) -> bool
+        ensures { result ≡ reading.ahead (λ w. is_some (token.a_text w)) self.now }
+    {
+        match self.left {
+            [token, ..] => matches!(&token.what, What::Text(_)),
             [] => false,
         }
     }
