@@ -8,9 +8,12 @@ use crate::{Run, run_alone};
 use caf_base::{
     BinaryOperator, Ending, Four, Kind, Memory, Object, Sequence, Text, Trap, UnaryOperator,
 };
-use caf_codegen::{compile, is_made};
+use caf_codegen::compile;
 use caf_journal::Entry;
-use caf_program::{Accepted, ExprR, LoopVariableR, PrintR, Program, StmtR};
+use caf_program::{
+    Accepted, ActualR, DummyR, ExprR, Intent, LoopVariableR, PrintR, Program, StmtR, SubR,
+    ValueKind,
+};
 use caf_source::is_built;
 use sqlite_items::{Boxed, Items};
 use std::alloc::{AllocError, Global};
@@ -19,7 +22,6 @@ use std::test::Fail;
 
 /// Compiles a program and runs it up to so many entries.
 fn run<R: Abort>(rt: &R, alloc: Global, a: &Accepted, most: u32) -> Result<Run, Memory> {
-    assert!(rt; is_made(a));
     assert!(rt; is_built(a));
     let code = compile(alloc, a)?;
     run_alone(alloc, a, &code, most)
@@ -181,5 +183,67 @@ fn compiled_loops_run_to_their_lines_and_traps(rt: HostRuntime) -> Result<(), Fa
     )?;
     let lines = &["9223372036854775806", "9223372036854775807"];
     expect(&rt, &trapped, lines, Some(Trap::Number), Ending::Trapped);
+    Ok(())
+}
+
+/// A subroutine `f(n)` that prints `n` and calls `f(n + 1)`, called with 1.
+fn calling_itself(alloc: Global) -> Result<Accepted, Memory> {
+    let mut parts = Items::new(alloc);
+    parts.push(PrintR::Number(ExprR::Local(0)))?;
+    let mut rest = Items::new(alloc);
+    rest.push((BinaryOperator::Add, ExprR::Number(1)))?;
+    let mut deeper = Items::new(alloc);
+    deeper.push(ActualR::Value(ExprR::Chain(Boxed::new(alloc, ExprR::Local(0))?, rest)))?;
+    let mut printing = Items::new(alloc);
+    printing.push(StmtR::Print { line: 6, parts })?;
+    printing.push(StmtR::Call {
+        line: 7,
+        sub: 0,
+        actuals: deeper,
+    })?;
+    let mut dummies = Sequence::new(alloc);
+    dummies.push(DummyR {
+        name: Text::copy_of(alloc, "n")?,
+        kind: ValueKind::Integer,
+        intent: Intent::In,
+    })?;
+    let mut subs = Sequence::new(alloc);
+    subs.push(SubR {
+        name: Text::copy_of(alloc, "f")?,
+        dummies,
+        locals: Sequence::new(alloc),
+        body: printing,
+    })?;
+    let mut actuals = Items::new(alloc);
+    actuals.push(ActualR::Value(ExprR::Number(1)))?;
+    let mut body = Items::new(alloc);
+    body.push(StmtR::Call {
+        line: 2,
+        sub: 0,
+        actuals,
+    })?;
+    Ok(Accepted::of(Program {
+        objects: Sequence::new(alloc),
+        names: Sequence::new(alloc),
+        subs,
+        body,
+    }))
+}
+
+#[test]
+fn the_two_hundred_and_first_compiled_call_traps(rt: HostRuntime) -> Result<(), Fail> {
+    let alloc = rt.alloc();
+    let trapped = run(&rt, alloc, &calling_itself(alloc)?, 1000)?;
+    let image = trapped
+        .summary
+        .images
+        .get(0)
+        .expect(&rt, "there is one image");
+    let lines = image.lines.as_slice();
+    assert_eq!(rt; lines.len(), 200);
+    assert_eq!(rt; lines[0].as_str(), "1");
+    assert_eq!(rt; lines[199].as_str(), "200");
+    assert_eq!(rt; image.trap, Some(Trap::Depth));
+    assert_eq!(rt; trapped.summary.ending, Ending::Trapped);
     Ok(())
 }
