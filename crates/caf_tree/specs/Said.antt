@@ -1,5 +1,5 @@
 -- The tokens that a unit is printed with, line by line.
-use Rattle.std.specs.Prelude.{◌≡◌, ℕ, suc, ◌+◌, Bool, true, false, List, [], ◌∷◌, ◌++◌, Option, Some, None, codes}
+use Rattle.std.specs.Prelude.{◌≡◌, ℕ, ◌+◌, min, Bool, true, false, List, [], ◌∷◌, ◌++◌, Option, Some, None, codes}
 use Rattle.std.specs.List.{flat_map}
 use Rattle.caf_lexer.specs.declared.token.What.{What}
 use Rattle.caf_lexer.specs.declared.token.What.TheVariants as what
@@ -168,21 +168,25 @@ simple_said (s.Split t colour key new) =
 
 -- ---- lines
 
--- a line: by how many levels it is indented, and its tokens
+-- a line: how many blanks stand in front of it, and its tokens
 abbrev pub SaidLine : Type 0
 SaidLine = ℕ × Said
 
--- A statement at some level of indent: the tokens of its first line, the lines behind it, and whether it is an `if` with a block.
+-- the indent of one level more: two blanks, and at most 40 in all
+abbrev pub deeper : ℕ → ℕ
+deeper indent = min (indent + 2) 40
+
+-- A statement at some indent: the tokens of its first line, the lines behind it, and whether it is an `if` with a block.
 pub record Shown : Type 0 where
   pub first : Said
   pub others : ℕ → List SaidLine
   pub is_branching : Bool
 
 abbrev pub lines_at : ℕ → Shown → List SaidLine
-lines_at level s = (level, s.first) ∷ s.others level
+lines_at indent s = (indent, s.first) ∷ s.others indent
 
 abbrev pub block_at : ℕ → List Shown → List SaidLine
-block_at level block = flat_map (lines_at level) block
+block_at indent block = flat_map (lines_at indent) block
 
 abbrev pub on_one_line : Said → Shown
 on_one_line said = record { first = said; others = λ _. []; is_branching = false }
@@ -192,17 +196,17 @@ end_said w = what.Word word.End ∷ what.Word w ∷ []
 
 -- a block that a line begins and another ends
 abbrev pub with_block : Said → Word → List Shown → Shown
-with_block said w body = record { first = said; others = λ level. block_at (suc level) body ++ (level, end_said w) ∷ []; is_branching = false }
+with_block said w body = record { first = said; others = λ indent. block_at (deeper indent) body ++ (indent, end_said w) ∷ []; is_branching = false }
 
 -- An `if` with a block that is the whole else part is an `else if`, whose lines end the statement.
 abbrev pub else_one : ℕ → Shown → Bool → List SaidLine
-else_one level one true = (level, what.Word word.Else ∷ one.first) ∷ one.others level
-else_one level one false = (level, of_word word.Else) ∷ lines_at (suc level) one ++ (level, end_said word.If) ∷ []
+else_one indent one true = (indent, what.Word word.Else ∷ one.first) ∷ one.others indent
+else_one indent one false = (indent, of_word word.Else) ∷ lines_at (deeper indent) one ++ (indent, end_said word.If) ∷ []
 
 abbrev pub else_lines : ℕ → List Shown → List SaidLine
-else_lines level [] = (level, end_said word.If) ∷ []
-else_lines level (one ∷ []) = else_one level one one.is_branching
-else_lines level (one ∷ second ∷ more) = (level, of_word word.Else) ∷ block_at (suc level) (one ∷ second ∷ more) ++ (level, end_said word.If) ∷ []
+else_lines indent [] = (indent, end_said word.If) ∷ []
+else_lines indent (one ∷ []) = else_one indent one one.is_branching
+else_lines indent (one ∷ second ∷ more) = (indent, of_word word.Else) ∷ block_at (deeper indent) (one ∷ second ∷ more) ++ (indent, end_said word.If) ∷ []
 
 abbrev pub condition_said : Expr → Said
 condition_said e = in_parentheses (expression_said e)
@@ -212,7 +216,7 @@ statement_layer (Stmt-F.Simple line a) = on_one_line (simple_said a)
 statement_layer (Stmt-F.IfLine line e inner a) = on_one_line (what.Word word.If ∷ condition_said e ++ simple_said a)
 statement_layer (Stmt-F.If line e block otherwise) = record {
   first = what.Word word.If ∷ condition_said e ++ of_word word.Then;
-  others = λ level. block_at (suc level) block ++ else_lines level otherwise;
+  others = λ indent. block_at (deeper indent) block ++ else_lines indent otherwise;
   is_branching = true;
 }
 statement_layer (Stmt-F.Do line v first last step body) =
@@ -224,7 +228,7 @@ abbrev pub shown : Stmt → Shown
 shown = fold-Stmt Shown statement_layer
 
 abbrev pub statements_said : ℕ → List Stmt → List SaidLine
-statements_said level body = flat_map (λ (st : Stmt). lines_at level (shown st)) body
+statements_said indent body = flat_map (λ (st : Stmt). lines_at indent (shown st)) body
 
 -- ---- declarations and units
 
@@ -246,19 +250,26 @@ intent_word intent.InOut = word.InOut
 abbrev pub kind_said : ValueKind → Said → Said
 kind_said k said = what.Word (kind_word k) ∷ said ++ of_sign sign.DoubleColon
 
+-- a parameter and its value
+abbrev pub value_said : List ℕ × Expr → Said
+value_said p = what.Name p.0 ∷ what.Sign sign.Assign ∷ expression_said p.1
+
+abbrev pub pointer_said : List ℕ → Said
+pointer_said x = what.Name x ∷ in_parentheses (of_sign sign.Colon)
+
 abbrev pub declaration_said : Decl → Said
-declaration_said (decl.Parameters line k values) = kind_said k (comma (of_word word.Parameter)) ++ listed (λ (p : List ℕ × Expr). what.Name p.0 ∷ what.Sign sign.Assign ∷ expression_said p.1) values
-declaration_said (decl.Copointers line k names) = kind_said k (comma (of_word word.Copointer)) ++ listed (λ (x : List ℕ). what.Name x ∷ in_parentheses (of_sign sign.Colon)) names
+declaration_said (decl.Parameters line k values) = kind_said k (comma (of_word word.Parameter)) ++ listed value_said values
+declaration_said (decl.Copointers line k names) = kind_said k (comma (of_word word.Copointer)) ++ listed pointer_said names
 declaration_said (decl.Dummies line k i names) = kind_said k (comma (what.Word word.Intent ∷ in_parentheses (of_word (intent_word i)))) ++ listed of_name names
 declaration_said (decl.Variables line k items) = kind_said k [] ++ listed item_said items
 declaration_said (decl.Events line items) = what.Word word.Event ∷ what.Sign sign.DoubleColon ∷ listed item_said items
 declaration_said (decl.Teams line names) = what.Word word.Team ∷ what.Sign sign.DoubleColon ∷ listed of_name names
 
 abbrev pub body_said : ℕ → List Decl → List Stmt → List SaidLine
-body_said level declarations body = flat_map (λ (d : Decl). (level, declaration_said d) ∷ []) declarations ++ statements_said level body
+body_said indent declarations body = flat_map (λ (d : Decl). (indent, declaration_said d) ∷ []) declarations ++ statements_said indent body
 
 abbrev pub sub_said : Sub → List SaidLine
-sub_said f = (1, what.Word word.Subroutine ∷ what.Name f.name ∷ perhaps_list of_name f.dummies) ∷ body_said 2 f.declarations f.body ++ (1, end_said word.Subroutine) ∷ []
+sub_said f = (deeper 0, what.Word word.Subroutine ∷ what.Name f.name ∷ perhaps_list of_name f.dummies) ∷ body_said (deeper (deeper 0)) f.declarations f.body ++ (deeper 0, end_said word.Subroutine) ∷ []
 
 abbrev pub subs_said : List Sub → List SaidLine
 subs_said [] = []
@@ -266,7 +277,7 @@ subs_said (f ∷ others) = (0, of_word word.Contains) ∷ flat_map sub_said (f �
 
 -- the lines of a unit
 abbrev pub unit_said : Program → List SaidLine
-unit_said u = (0, what.Word word.Program ∷ of_name u.name) ∷ body_said 1 u.declarations u.body ++ subs_said u.subs ++ (0, end_said word.Program) ∷ []
+unit_said u = (0, what.Word word.Program ∷ of_name u.name) ∷ body_said (deeper 0) u.declarations u.body ++ subs_said u.subs ++ (0, end_said word.Program) ∷ []
 
 -- The tokens of a unit, with the ends of its statements. They spell it, up to the lines.
 abbrev pub unit_tokens : Program → Said

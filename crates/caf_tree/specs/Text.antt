@@ -1,5 +1,5 @@
 -- The text of a unit: one statement a line, with one blank between tokens.
-use Rattle.std.specs.Prelude.{◌≡◌, ℕ, ◌+◌, ◌*◌, ◌==◌, Bool, min, nat_lt, List, [], ◌∷◌, ◌++◌, length, map, replicate, count_by, codes, if◌then◌else◌}
+use Rattle.std.specs.Prelude.{◌≡◌, ℕ, ◌+◌, ◌==◌, Bool, nat_lt, List, [], ◌∷◌, ◌++◌, length, map, replicate, count_by, codes, if◌then◌else◌}
 use Rattle.std.specs.List.{flat_map}
 use Rattle.std.specs.Fmt.{signed_decimal}
 use Rattle.caf_lexer.specs.declared.token.What.{What}
@@ -123,16 +123,12 @@ after_column column (t ∷ others) =
     if nat_lt 130 (column + 1 + length t) then codes " &" ++ 10 ∷ t ++ after_column (length t) others
     else 32 ∷ t ++ after_column (column + 1 + length t) others
 
--- two blanks a level, and at most 40
-abbrev pub indent_of : ℕ → ℕ
-indent_of level = min (2 * level) 40
-
 abbrev pub tokens_text : ℕ → List Bytes → Bytes
 tokens_text indent [] = []
 tokens_text indent (t ∷ others) = t ++ after_column (indent + length t) others
 
 abbrev pub line_text : SaidLine → Bytes
-line_text l = replicate (indent_of l.0) 32 ++ tokens_text (indent_of l.0) (map token_text l.1) ++ 10 ∷ []
+line_text l = replicate l.0 32 ++ tokens_text l.0 (map token_text l.1) ++ 10 ∷ []
 
 -- what `print_unit` answers
 abbrev pub unit_text : Program → Bytes

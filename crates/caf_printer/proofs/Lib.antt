@@ -1,0 +1,15 @@
+pub mod Printable
+pub mod Told
+pub mod Expressions
+pub mod Parts
+pub mod Layers
+pub mod Lexed
+pub mod Rows
+pub mod Found
+pub mod Shows
+pub mod Blocks
+pub mod Branched
+pub mod Programs
+pub mod Printed
+pub mod Bare
+pub mod Again
