@@ -1,0 +1,13 @@
+mod Cells
+mod Declared
+mod Kept
+mod Kindly
+mod Looked
+mod Objects
+mod One
+mod Passed
+mod Says
+mod Stands
+mod Told
+mod Went
+mod Whole
