@@ -8,8 +8,10 @@
 #![tactic(auto)]
 
 pub mod expr;
+mod law;
 pub mod stmt;
 mod tree;
 pub mod unit;
 
+pub use law::a_unit_needs_as_many_levels_as_it_is_deep;
 pub use tree::{Expr, Operator, Printed, Stmt, Unit};
