@@ -1,0 +1,3 @@
+pub mod Keeps
+pub mod PartsRead
+pub mod SimpleRead

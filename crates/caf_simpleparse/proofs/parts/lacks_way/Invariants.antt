@@ -1,0 +1,9 @@
+use Rattle.std.proofs.Common.{◌≡◌, length}
+use Rattle.caf_tree.specs.Statements.{none_of, same_way}
+use Rattle.caf_simpleparse.proofs.parts.lacks_way.Given as goal
+
+abbrev pub invariant-loop-other : goal.invariant-loop-other
+invariant-loop-other l = none_of (same_way l.fence) l.fn.others ≡ none_of (same_way l.fence) l.left
+
+abbrev pub decreases-loop-other : goal.decreases-loop-other
+decreases-loop-other l = length l.left
