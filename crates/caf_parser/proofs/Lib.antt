@@ -1,0 +1,5 @@
+pub mod Blocks
+pub mod Units
+pub mod Whole
+pub mod AtMostOne
+pub mod Turns

@@ -1,0 +1,12 @@
+use Rattle.std.proofs.Common.{◌∙◌}
+use Rattle.caf_exprparse.proofs.Fallback.{ends_here, goes_on}
+use Rattle.caf_parser.specs.Reader as r
+use Rattle.caf_parser.proofs.program.many_subs.Goals as goal
+
+pub returns-in-Err-Syntax : goal.returns-in-Err-Syntax
+returns-in-Err-Syntax c =
+    ends_here (r.sub c.args.depth) _ _ _ _ _ _ c.loop-turn-test.true c.loop-turn.invariant (rw c.in-Err-Syntax.field-0-is at c.in-Err-Syntax.ensures) (c.back.ensures ∙ c.mark-before.ensures)
+
+pub loop-turn-preserved : goal.loop-turn-preserved
+loop-turn-preserved c =
+    goes_on (r.sub c.args.depth) _ _ _ _ _ _ _ _ c.loop-turn-test.true c.loop-turn.invariant c.in-Ok.ensures c.in_ok-push-in-Ok.ensures.ok

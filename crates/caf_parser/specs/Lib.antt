@@ -1,0 +1,3 @@
+pub mod Reader
+pub mod Nests
+pub mod Answer
