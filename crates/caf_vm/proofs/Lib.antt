@@ -1,6 +1,7 @@
 pub mod Begins
 pub mod Cases
 pub mod Copied
+pub mod Driven
 pub mod Ended
 pub mod Front
 pub mod Joined

@@ -1,5 +1,7 @@
 -- Codes of small cases, and the shapes at their addresses.
-use Rattle.std.specs.Prelude.{ℕ, List, [], ◌∷◌, true, false, codes, Option, Some, None, pos, negsuc}
+use Rattle.std.specs.Prelude.{ℕ, Bool, List, [], ◌∷◌, true, false, codes, Option, Some, None, pos, negsuc}
+use Rattle.caf_base.specs.declared.effect.Effect.{Effect}
+use Rattle.caf_base.specs.declared.effect.Effect.TheVariants as effect
 use Rattle.caf_base.specs.declared.fence.Down.TheVariants as down
 use Rattle.caf_base.specs.declared.object.Kind.TheVariants as kind
 use Rattle.caf_base.specs.declared.object.Object.{Object}
@@ -582,3 +584,9 @@ programs_sub_0 = None ∷ None ∷ None ∷ None ∷ None ∷ None ∷ None ∷ 
 
 abbrev pub programs_subs : List Row
 programs_subs = programs_sub_0 ∷ []
+
+-- an effect behind which a task is over
+abbrev pub ends_run : Effect → Bool
+ends_run (effect.Ends event) = true
+ends_run (effect.Traps trap) = true
+ends_run _ = false
