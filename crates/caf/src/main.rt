@@ -32,7 +32,10 @@ fn as_texts(alloc: Global, words: &[String]) -> io::Result<Vec<&str>> {
     Ok(texts)
 }
 
-fn call<R: Files + Print + AllocGlobal + Threads + Wait + Sync>(rt: &R, words: &[&str]) -> u8 {
+fn call<'a, R: Files + Print + AllocGlobal + Threads + Wait + Sync>(
+    rt: &R,
+    words: &'a [&'a str],
+) -> u8 {
     let alloc = rt.alloc();
     let mut host = FileHost::new(alloc, rt);
     let mut out = StdSink::new(rt);

@@ -1,7 +1,8 @@
-pub mod FirstForm
-pub mod Value
-pub mod Machine
-pub mod Waves
-pub mod Words
-pub mod Promise
+pub mod Sees
+pub mod Refusals
+pub mod Reading
+pub mod Wanted
+pub mod Orders
 pub mod Ended
+pub mod Promise
+pub mod Answers

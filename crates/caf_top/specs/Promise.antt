@@ -1,25 +1,35 @@
 -- What the top calls promise, status by status: what is due to be written, and when.
-use Rattle.std.specs.Prelude.{◌≡◌, ℕ, ◌<◌, ◌≤◌, Bool, true, List, [], ◌++◌, length, take, codes, Option, Some, None, ◌⊎◌}
+use Rattle.std.specs.Prelude.{◌≡◌, ℕ, ◌<◌, ◌≤◌, List, [], ◌++◌, length, take, codes, Option, None, ◌⊎◌}
 use Rattle.std.specs.Io.KnownBytes.{Appends}
 use Rattle.caf_base.specs.declared.summary.Summary.{Summary}
-use Rattle.caf_base.specs.declared.summary.Ending.TheVariants.{Done}
+use Rattle.caf_base.specs.declared.summary.Ending.{Ending}
+use Rattle.caf_base.specs.declared.summary.Ending.TheVariants as ending
+use Rattle.caf_code.specs.Listing.{listing_text}
+use Rattle.caf_code.specs.Rules.{KeepsRules}
+use Rattle.caf_code.specs.declared.listing.Listing.{Listing}
+use Rattle.caf_codegen.specs.Compiled.{Compiled}
 use Rattle.caf_journal.specs.declared.entry.Entry.{Entry}
-use Rattle.caf_report.specs.Report.{report_text}
-use Rattle.caf_tree.specs.declared.tree.Unit.{Unit as Program}
 use Rattle.caf_outside.specs.Texts.{Texts, Has}
+use Rattle.caf_program.specs.declared.program.Program.{Program}
+use Rattle.caf_report.specs.Report.{report_text}
+use Rattle.caf_solo.specs.RunOf.{IsRunOf}
+use Rattle.caf_unbuilt.specs.Unbuilt.{first_unbuilt}
 use Rattle.caf_top.specs.declared.answer.Due.{Due}
-use Rattle.caf_top.specs.declared.answer.Due.TheVariants.{Run, Refused, Unreadable, TooLong}
-use Rattle.caf_top.specs.Words.{asked, usage}
-use Rattle.caf_top.specs.FirstForm.{seen}
-use Rattle.caf_top.specs.Machine.{State, state, ending, summary}
-use Rattle.caf_top.specs.Waves.{is_legal, one_step}
+use Rattle.caf_top.specs.declared.answer.Due.TheVariants.{Done, Trapped, Refused, Stuck, Spent, Unreadable, TooLong}
+use Rattle.caf_top.specs.declared.job.Work.{Work}
+use Rattle.caf_top.specs.declared.job.Work.TheVariants as work
+use Rattle.caf_top.specs.Refusals.{Told, IsWrong, IsUnbuilt, refusal_line}
+use Rattle.caf_top.specs.Sees.{Sees}
+use Rattle.caf_top.specs.Wanted.{usage, wanted_by}
 
 -- the longest program text
 abbrev pub limit : ℕ
 limit = 1048576
 
--- what a call saw of the host: its texts, where they are told, the name that was asked for, and how often loads of that
--- name had failed before the call and had after it
+-- ---- what a call saw of the host
+
+-- its texts, where they are told, the name that was asked for, and how often loads of that name had failed before the call
+-- and had after it
 pub record Seen : Type 0 where
   pub texts : Option Texts
   pub name : List ℕ
@@ -38,37 +48,74 @@ pub record IsLoaded (host : Seen) (P : List ℕ → Type 0) : Type 0 where
   pub within : length bytes ≤ limit
   pub has : P bytes
 
--- the journal is that of the program's run to its end, and legal; the source machine, led by its choices, comes to a
--- state that is done and of which the summary tells
-pub record IsRunOf (program : Program) (journal : List Entry) (told : Summary) : Type 0 where
-  pub entries : journal ≡ one_step
-  pub legal : is_legal program journal ≡ true
-  pub last : State
-  pub leads : state program journal ≡ Some last
-  pub done : ending last ≡ Done
-  pub tells : told ≡ summary last
+-- ---- what a text gives
 
--- the bytes are a program, the journal is that of its run, and the text is its report
-pub record Reports (bytes : List ℕ) (journal : List Entry) (text : List ℕ) : Type 0 where
+-- The bytes are an accepted program that runs; the journal is that of its run of at most so many entries, which ends like
+-- this; and the text is the report of the run.
+pub record Reports (events : ℕ) (e : Ending) (bytes : List ℕ) (journal : List Entry) (text : List ℕ) : Type 0 where
   pub program : Program
-  pub sees : seen bytes ≡ Some program
+  pub sees : Sees bytes program
+  pub built : first_unbuilt program ≡ None
   pub told : Summary
-  pub runs : IsRunOf program journal told
+  pub runs : IsRunOf program events journal told
+  pub ends : told.ending ≡ e
   pub report : text ≡ report_text told
 
--- the bytes are no program of the form that is taken
-pub record Refuses (bytes : List ℕ) (journal : List Entry) (text : List ℕ) : Type 0 where
-  pub unseen : seen bytes ≡ None
+-- the bytes are an accepted program that runs, and the text is the listing of a code which keeps the rules of a code and does
+-- what the program says
+pub record Lists (bytes : List ℕ) (journal : List Entry) (text : List ℕ) : Type 0 where
+  pub program : Program
+  pub sees : Sees bytes program
+  pub built : first_unbuilt program ≡ None
+  pub code : Listing
+  pub keeps : KeepsRules code
+  pub compiled : Compiled program code
+  pub listing : text ≡ listing_text code
   pub no_run : journal ≡ []
-  pub line : text ≡ codes "refused: line 1: not yet\n"
 
--- the text that was loaded is a program, and this is the report of its run
-abbrev pub IsReport : Seen → List Entry → List ℕ → Type 0
-IsReport host journal text = IsLoaded host (λ bytes. Reports bytes journal text)
+-- the bytes are no accepted program, or one that doesn't run yet, and the text tells of a fault that they have, or of the first
+-- statement that doesn't run
+pub record Refuses (bytes : List ℕ) (journal : List Entry) (text : List ℕ) : Type 0 where
+  pub told : Told
+  pub why : IsWrong bytes told ⊎ IsUnbuilt bytes told
+  pub line : text ≡ refusal_line told
+  pub no_run : journal ≡ []
 
--- the text that was loaded is no program, and this is the line on it
-abbrev pub IsRefusal : Seen → List Entry → List ℕ → Type 0
-IsRefusal host journal text = IsLoaded host (λ bytes. Refuses bytes journal text)
+-- a run that was wanted ends like this
+abbrev pub Ends : Work → Ending → List ℕ → List Entry → List ℕ → Type 0
+Ends (work.Run events) e bytes journal text = Reports events e bytes journal text
+Ends work.List e bytes journal text = ⊥
+
+-- what was wanted came to its end
+abbrev pub IsDone : Work → List ℕ → List Entry → List ℕ → Type 0
+IsDone (work.Run events) bytes journal text = Reports events ending.Done bytes journal text
+IsDone work.List bytes journal text = Lists bytes journal text
+
+-- what a loaded text gives
+abbrev pub IsGiven : Work → Due → List ℕ → List Entry → List ℕ → Type 0
+IsGiven w Done bytes journal text = IsDone w bytes journal text
+IsGiven w Trapped bytes journal text = Ends w ending.Trapped bytes journal text
+IsGiven w Stuck bytes journal text = Ends w ending.Stuck bytes journal text
+IsGiven w Spent bytes journal text = Ends w ending.Going bytes journal text
+IsGiven w Refused bytes journal text = Refuses bytes journal text
+IsGiven w Unreadable bytes journal text = ⊥
+IsGiven w TooLong bytes journal text = ⊥
+
+-- ---- what is due to be written
+
+-- the status of each
+abbrev pub status_of : Due → ℕ
+status_of Done = 0
+status_of Trapped = 1
+status_of Refused = 3
+status_of Stuck = 4
+status_of Spent = 5
+status_of Unreadable = 7
+status_of TooLong = 10
+
+-- a text was loaded, and gives this
+abbrev pub Gives : Seen → Work → Due → List Entry → List ℕ → Type 0
+Gives host w due journal text = IsLoaded host (λ bytes. IsGiven w due bytes journal text)
 
 -- a load of the name failed
 pub record IsUnreadable (host : Seen) (journal : List Entry) (text : List ℕ) : Type 0 where
@@ -83,25 +130,17 @@ pub record IsTooLong (host : Seen) (journal : List Entry) (text : List ℕ) : Ty
   pub no_run : journal ≡ []
   pub line : text ≡ codes "too long " ++ host.name ++ codes "\n"
 
--- the words ask for nothing that is known
+-- the words want nothing that is built
 pub record IsUsage (words : List (List ℕ)) (journal : List Entry) (text : List ℕ) : Type 0 where
-  pub unknown : asked words ≡ None
+  pub unknown : wanted_by words ≡ None
   pub no_run : journal ≡ []
   pub lines : text ≡ usage
 
 -- what is due to be written, whatever the sink does
-abbrev pub IsDue : Seen → List Entry → Due → List ℕ → Type 0
-IsDue host journal Run text = IsReport host journal text
-IsDue host journal Refused text = IsRefusal host journal text
-IsDue host journal Unreadable text = IsUnreadable host journal text
-IsDue host journal TooLong text = IsTooLong host journal text
-
--- what a loaded text gives
-abbrev pub IsGiven : List ℕ → List Entry → Due → List ℕ → Type 0
-IsGiven bytes journal Run text = Reports bytes journal text
-IsGiven bytes journal Refused text = Refuses bytes journal text
-IsGiven bytes journal Unreadable text = ⊥
-IsGiven bytes journal TooLong text = ⊥
+abbrev pub IsDue : Seen → Work → Due → List Entry → List ℕ → Type 0
+IsDue host w Unreadable journal text = IsUnreadable host journal text
+IsDue host w TooLong journal text = IsTooLong host journal text
+IsDue host w due journal text = Gives host w due journal text
 
 -- the sink took a text that has P, and no other byte
 abbrev pub Took : Option (List ℕ) → Option (List ℕ) → (List ℕ → Type 0) → Type 0
@@ -111,19 +150,24 @@ Took old new P = (text : List ℕ) × P text × Appends old new text
 abbrev pub TookPart : Option (List ℕ) → Option (List ℕ) → (List ℕ → Type 0) → Type 0
 TookPart old new P = (text : List ℕ) × (n : ℕ) × P text × (n < length text) × Appends old new (take n text)
 
+-- the sink took exactly what was due, and the status is that of what this is
+abbrev pub TookDue : Option (List ℕ) → Option (List ℕ) → Seen → Work → ℕ → List Entry → Type 0
+TookDue old new host w status journal = (due : Due) × (status ≡ status_of due) × Took old new (IsDue host w due journal)
+
 -- the sink took a part of what was due, and not all of it
-abbrev pub TookPartDue : Option (List ℕ) → Option (List ℕ) → Seen → List Entry → Type 0
-TookPartDue old new host journal = (due : Due) × TookPart old new (IsDue host journal due)
+abbrev pub TookPartDue : Option (List ℕ) → Option (List ℕ) → Seen → Work → List Entry → Type 0
+TookPartDue old new host w journal = (due : Due) × TookPart old new (IsDue host w due journal)
 
-abbrev pub status_of : Due → ℕ
-status_of Run = 0
-status_of Refused = 3
-status_of Unreadable = 7
-status_of TooLong = 10
+-- how a run ends, as what is due
+abbrev pub due_of_ending : Ending → Due
+due_of_ending ending.Done = Done
+due_of_ending ending.Trapped = Trapped
+due_of_ending ending.Stuck = Stuck
+due_of_ending ending.Going = Spent
 
--- the statuses of a request, and with that for words which ask for none
+-- the statuses of what is built, and with that for words which want nothing of it
 abbrev pub IsSerialStatus : ℕ → Type 0
-IsSerialStatus s = (s ≡ 0) ⊎ (s ≡ 3) ⊎ (s ≡ 7) ⊎ (s ≡ 8) ⊎ (s ≡ 9) ⊎ (s ≡ 10)
+IsSerialStatus s = (s ≡ 0) ⊎ (s ≡ 1) ⊎ (s ≡ 3) ⊎ (s ≡ 4) ⊎ (s ≡ 5) ⊎ (s ≡ 7) ⊎ (s ≡ 8) ⊎ (s ≡ 9) ⊎ (s ≡ 10)
 
 abbrev pub IsMainStatus : ℕ → Type 0
 IsMainStatus s = (s ≡ 2) ⊎ IsSerialStatus s

@@ -1,25 +1,38 @@
-ghost use Rattle.std.specs.Prelude.{◌≡◌, ◌≢◌, ◌≤◌, ◌++◌, ℕ, List, codes, length, IfOk};
+ghost use Rattle.std.specs.Prelude.{◌≡◌, ◌≢◌, ◌≤◌, ◌<◌, ◌^◌, ◌++◌, ℕ, List, [], None, codes, length, IfOk, IsTrue};
 ghost use Rattle.caf_outside.specs.Texts.{Has};
-ghost use Rattle.caf_top.specs.Words.{request_of};
-ghost use Rattle.caf_top.specs.Promise.{IsDue, IsGiven, Seen, limit, seen_of};
+ghost use Rattle.caf_source.specs.Built.{is_program_built};
+ghost use Rattle.caf_top.specs.Answers.{CarriedOut, IsListing, IsRefusal, IsReport, IsStopped, Wrote};
+ghost use Rattle.caf_top.specs.Promise.{IsDue, IsGiven, Seen, due_of_ending, limit, seen_of};
+ghost use Rattle.caf_top.specs.Reading.{told_by};
+ghost use Rattle.caf_top.specs.Wanted.{wanted_of};
+ghost use Rattle.caf_unbuilt.specs.Unbuilt.{first_unbuilt as first};
 
-use crate::first_form::read_unit;
-use crate::order::Order;
-use crate::run::run;
-use caf_base::{Memory, Sequence};
+use crate::job::{Job, Work};
+use crate::read::read_program;
+use crate::refusal::{Refusal, Stop, line_of, refused};
+use caf_base::{Ending, Memory, Sequence};
+use caf_code::print_listing;
+use caf_codegen::compile;
 use caf_journal::Entry;
 use caf_outside::{Host, LoadFail};
+use caf_program::Accepted;
 use caf_report::report;
+use caf_solo::run_alone;
+use caf_unbuilt::first_unbuilt;
 use std::alloc::Global;
 
 /// The longest program text, in bytes.
 const LIMIT: usize = 1_048_576;
 
-/// What is due to be written: the report of a run, or a line on why there is none.
+/// What is due to be written: the report of a run by how it ends, a listing, or a line on why there is none.
 #[derive(Clone, Copy)]
 pub(crate) enum Due {
-    Run,
+    /// The report of a run to its end, or a listing.
+    Done,
+    Trapped,
     Refused,
+    Stuck,
+    Spent,
     Unreadable,
     TooLong,
 }
@@ -32,37 +45,124 @@ pub(crate) struct Answer {
     pub(crate) text: Vec<u8>,
 }
 
-// What a loaded text gives.
-#[tactic(auto, using(crate::proofs::Bounds::seen_prints_one))]
-fn given(alloc: Global, bytes: &[u8]) -> Result<Answer, Memory>
-    ensures { IfOk result (λ answer. IsGiven bytes.now answer.journal answer.due answer.text.items) }
-{
-    match read_unit(alloc, bytes)? {
-        Some(unit) => {
-            let finished = run(alloc, &unit)?;
-            Ok(Answer {
-                due: Due::Run,
-                text: report(alloc, &finished.summary)?,
-                journal: finished.journal,
-            })
-        }
-        None => Ok(Answer {
-            due: Due::Refused,
+impl Answer {
+    // A text without a run.
+    fn without_run(alloc: Global, due: Due, text: Vec<u8>) -> Answer
+        ensures due { result.due ≡ due }
+        ensures journal { result.journal ≡ [] }
+        ensures text { result.text ≡ text }
+    {
+        Answer {
+            due,
             journal: Sequence::new(alloc),
-            text: Vec::from_slice(alloc, b"refused: line 1: not yet\n")?,
-        }),
+            text,
+        }
     }
 }
 
-// The same, as what is due of a host that gave the text without a fault.
-fn due_of(alloc: Global, bytes: &[u8]) -> Result<Answer, Memory>
-    ensures { (host : Seen) → host.failed_now ≡ host.failed_before → Has host.texts host.name (λ held. bytes.now ≡ held) → length bytes.now ≤ limit
-        → IfOk result (λ answer. IsDue host answer.journal answer.due answer.text.items) }
+fn due_of_ending(ending: Ending) -> Due
+    ensures { result ≡ due_of_ending ending }
 {
-    given(alloc, bytes)
+    match ending {
+        Ending::Done => Due::Done,
+        Ending::Trapped => Due::Trapped,
+        Ending::Stuck => Due::Stuck,
+        Ending::Going => Due::Spent,
+    }
 }
 
-// A line on a file.
+/// The report of a program's run on one image.
+fn reported(alloc: Global, a: &Accepted, events: u32) -> Result<Answer, Memory>
+    requires { IsTrue (is_program_built a.now) }
+    ensures { IfOk result (λ answer. IsReport events a.now answer.due answer.journal answer.text.items) }
+{
+    let code = compile(alloc, a)?;
+    let run = run_alone(alloc, a, &code, events)?;
+    Ok(Answer {
+        due: due_of_ending(run.summary.ending),
+        text: report(alloc, &run.summary)?,
+        journal: run.journal,
+    })
+}
+
+/// The listing of a program's code.
+fn listed(alloc: Global, a: &Accepted) -> Result<Answer, Memory>
+    requires { IsTrue (is_program_built a.now) }
+    ensures { IfOk result (λ answer. IsListing a.now answer.due answer.journal answer.text.items) }
+{
+    let code = compile(alloc, a)?;
+    let _listing = code.listing();
+    let text = print_listing(alloc, &code)?;
+    Ok(Answer::without_run(alloc, Due::Done, text))
+}
+
+/// The line of a refusal.
+fn told(alloc: Global, refusal: &Refusal) -> Result<Answer, Memory>
+    ensures { IfOk result (λ answer. IsRefusal (told_by refusal.now) answer.due answer.journal answer.text.items) }
+{
+    let line = line_of(alloc, refusal)?;
+    Ok(Answer::without_run(alloc, Due::Refused, line))
+}
+
+/// The same, where memory wasn't wanting before.
+fn stopped(alloc: Global, stop: &Stop) -> Result<Answer, Memory>
+    ensures { IfOk result (λ answer. IsStopped stop.now answer.due answer.journal answer.text.items) }
+{
+    match stop {
+        Stop::Refused(refusal) => told(alloc, refusal),
+        Stop::Memory => Err(Memory),
+    }
+}
+
+/// The line of a program that doesn't run yet.
+fn unbuilt(alloc: Global, line: u32) -> Result<Answer, Memory>
+    ensures { IfOk result (λ answer. IsRefusal (line, codes "not yet") answer.due answer.journal answer.text.items) }
+{
+    stopped(alloc, &refused(alloc, line, "not yet"))
+}
+
+/// What is wanted of a program that runs.
+fn worked(alloc: Global, work: Work, a: &Accepted) -> Result<Answer, Memory>
+    requires { IsTrue (is_program_built a.now) }
+    ensures { IfOk result (λ answer. Wrote work a.now answer.due answer.journal answer.text.items) }
+{
+    match work {
+        Work::Run { events } => reported(alloc, a, events),
+        Work::List => listed(alloc, a),
+    }
+}
+
+/// What an accepted program gives.
+fn carried_out(alloc: Global, work: Work, a: &Accepted) -> Result<Answer, Memory>
+    ensures { IfOk result (λ answer. CarriedOut work a.now answer.due answer.journal answer.text.items) }
+{
+    match first_unbuilt(a) {
+        Some(line) => unbuilt(alloc, line),
+        None => worked(alloc, work, a),
+    }
+}
+
+/// What a loaded text gives.
+fn given(alloc: Global, work: Work, bytes: &[u8]) -> Result<Answer, Memory>
+    requires { length bytes.now < 2 ^ 32 }
+    ensures { IfOk result (λ answer. IsGiven work answer.due bytes.now answer.journal answer.text.items) }
+{
+    match read_program(alloc, bytes) {
+        Ok(accepted) => carried_out(alloc, work, &accepted),
+        Err(stop) => stopped(alloc, &stop),
+    }
+}
+
+/// The same, as what is due of a host that gave the text without a fault.
+fn due_of(alloc: Global, work: Work, bytes: &[u8]) -> Result<Answer, Memory>
+    requires { length bytes.now ≤ limit }
+    ensures { (host : Seen) → host.failed_now ≡ host.failed_before → Has host.texts host.name (λ held. bytes.now ≡ held)
+        → IfOk result (λ answer. IsDue host work answer.due answer.journal answer.text.items) }
+{
+    given(alloc, work, bytes)
+}
+
+/// A line on a file.
 fn line_on(alloc: Global, front: &str, file: &str) -> Result<Vec<u8>, Memory>
     ensures { IfOk result (λ line. line.items ≡ front.now ++ file.now ++ codes "\n") }
 {
@@ -72,31 +172,32 @@ fn line_on(alloc: Global, front: &str, file: &str) -> Result<Vec<u8>, Memory>
     Ok(line)
 }
 
-/// What the answer to an order is, before anything is written.
+/// A file that gives no text.
+fn not_loaded(alloc: Global, due: Due, front: &str, file: &str) -> Result<Answer, Memory>
+    ensures { IfOk result (λ answer. (answer.due ≡ due) × (answer.journal ≡ []) × (answer.text.items ≡ front.now ++ file.now ++ codes "\n")) }
+{
+    let line = line_on(alloc, front, file)?;
+    Ok(Answer::without_run(alloc, due, line))
+}
+
+/// What the answer to a job is, before anything is written.
 pub(crate) fn answer_to<H: Host>(
     alloc: Global,
-    order: &Order,
+    job: Job<'_>,
     host: &mut H,
 ) -> Result<Answer, Memory>
-    ensures due { let seen = seen_of (H.texts host.old) (H.load_faults host.old) (H.load_faults host.new) (request_of order.now).file in
-        IfOk result (λ answer. IsDue seen answer.journal answer.due answer.text.items) }
-    ensures others { (other : List ℕ) → other ≢ (request_of order.now).file → H.load_faults host.new other ≡ H.load_faults host.old other }
+    ensures due { let wanted = wanted_of job.entry in
+        let seen = seen_of (H.texts host.old) (H.load_faults host.old) (H.load_faults host.new) wanted.file in
+        IfOk result (λ answer. IsDue seen wanted.work answer.due answer.journal answer.text.items) }
+    ensures others { (other : List ℕ) → other ≢ (wanted_of job.entry).file → H.load_faults host.new other ≡ H.load_faults host.old other }
     ensures saves { H.save_faults host.new ≡ H.save_faults host.old }
     ensures texts { H.texts host.new ≡ H.texts host.old }
 {
-    let Order::Step { file, .. } = *order;
+    let Job { file, work } = job;
     match host.load(alloc, file, LIMIT) {
-        Ok(bytes) => due_of(alloc, &bytes),
-        Err(LoadFail::Failed) => Ok(Answer {
-            due: Due::Unreadable,
-            journal: Sequence::new(alloc),
-            text: line_on(alloc, "cannot read ", file)?,
-        }),
-        Err(LoadFail::TooLong) => Ok(Answer {
-            due: Due::TooLong,
-            journal: Sequence::new(alloc),
-            text: line_on(alloc, "too long ", file)?,
-        }),
+        Ok(bytes) => due_of(alloc, work, &bytes),
+        Err(LoadFail::Failed) => not_loaded(alloc, Due::Unreadable, "cannot read ", file),
+        Err(LoadFail::TooLong) => not_loaded(alloc, Due::TooLong, "too long ", file),
         Err(LoadFail::Memory) => Err(Memory),
     }
 }

@@ -1,74 +1,52 @@
-ghost use Rattle.std.specs.Prelude.{◌≡◌, ◌≢◌, ℕ, List, []};
+ghost use Rattle.std.specs.Prelude.{◌≡◌, ◌≢◌, ◌⊎◌, ℕ, List, [], Some, IsSomeAnd, IsTrue, is_some};
 ghost use Rattle.std.specs.Io.KnownBytes.{Keeps};
 ghost use Rattle.caf_outside.specs.Causes.{Rose};
+ghost use Rattle.caf_words.specs.Requests.{request_of_order};
 ghost use Rattle.caf_top.specs.Ended.{journal_of};
-ghost use Rattle.caf_top.specs.Words.{IsInRange, request_of};
-ghost use Rattle.caf_top.specs.Promise.{IsReport, IsRefusal, IsUnreadable, IsTooLong, IsSerialStatus, Took, TookPartDue, seen_of, status_of};
+ghost use Rattle.caf_top.specs.Promise.{IsSerialStatus, TookDue, TookPartDue, seen_of, status_of};
+ghost use Rattle.caf_top.specs.Wanted.{wanted_in, wanted_of};
 
 use crate::answer::{Answer, Due, answer_to};
 use crate::ended::Ended;
-use crate::order::Order;
+use crate::job::{Job, job_of};
 use crate::output::write_all;
 use caf_base::Sequence;
 use caf_outside::{Host, Sink};
+use caf_words::Order;
 use std::alloc::Global;
 
 fn status_of(due: Due) -> u8
     ensures { result ≡ status_of due }
 {
     match due {
-        Due::Run => 0,
+        Due::Done => 0,
+        Due::Trapped => 1,
         Due::Refused => 3,
+        Due::Stuck => 4,
+        Due::Spent => 5,
         Due::Unreadable => 7,
         Due::TooLong => 10,
     }
 }
 
-/// Carries out an order: loads the program's text from the host, runs it, and writes the report to the sink.
-///
-/// The status is 0 where the program has run to its end, 3 where the text is no program that is taken, 7 where the text
-/// can't be loaded, 8 where the sink met a fault, 9 for want of memory, and 10 where the text is too long.
-pub fn caf_serial<H: Host, O: Sink>(
-    alloc: Global,
-    order: &Order,
-    host: &mut H,
-    out: &mut O,
-) -> Ended
-    requires { IsInRange (request_of order.now) }
-
-    // The text is a program, the journal is that of its run, and the sink took its report.
-    ensures done { let seen = seen_of (H.texts host.old) (H.load_faults host.old) (H.load_faults host.new) (request_of order.now).file in
-        result.status ≡ 0 → Took (O.taken out.old) (O.taken out.new) (IsReport seen (journal_of result)) }
-
-    // The text is no program of the form that is taken.
-    ensures refused { let seen = seen_of (H.texts host.old) (H.load_faults host.old) (H.load_faults host.new) (request_of order.now).file in
-        result.status ≡ 3 → Took (O.taken out.old) (O.taken out.new) (IsRefusal seen (journal_of result)) }
-
-    // A load of the file failed in this call.
-    ensures unreadable { let seen = seen_of (H.texts host.old) (H.load_faults host.old) (H.load_faults host.new) (request_of order.now).file in
-        result.status ≡ 7 → Took (O.taken out.old) (O.taken out.new) (IsUnreadable seen (journal_of result)) }
-
-    // The text is longer than the limit.
-    ensures too_long { let seen = seen_of (H.texts host.old) (H.load_faults host.old) (H.load_faults host.new) (request_of order.now).file in
-        result.status ≡ 10 → Took (O.taken out.old) (O.taken out.new) (IsTooLong seen (journal_of result)) }
-
-    // The sink met a fault in this call, exactly then, and took less than was due.
+/// Carries out a job, as [`caf_serial`] says.
+fn carry_out<H: Host, O: Sink>(alloc: Global, job: Job<'_>, host: &mut H, out: &mut O) -> Ended
+    ensures due { let wanted = wanted_of job.entry in
+        let seen = seen_of (H.texts host.old) (H.load_faults host.old) (H.load_faults host.new) wanted.file in
+        result.status ≢ 8 → result.status ≢ 9 → TookDue (O.taken out.old) (O.taken out.new) seen wanted.work result.status (journal_of result) }
+    ensures part { let wanted = wanted_of job.entry in
+        let seen = seen_of (H.texts host.old) (H.load_faults host.old) (H.load_faults host.new) wanted.file in
+        result.status ≡ 8 → TookPartDue (O.taken out.old) (O.taken out.new) seen wanted.work (journal_of result) }
     ensures sink_failed { result.status ≡ 8 → Rose (O.faults out.old) (O.faults out.new) }
     ensures sink_stood { result.status ≢ 8 → O.faults out.new ≡ O.faults out.old }
-    ensures part { let seen = seen_of (H.texts host.old) (H.load_faults host.old) (H.load_faults host.new) (request_of order.now).file in
-        result.status ≡ 8 → TookPartDue (O.taken out.old) (O.taken out.new) seen (journal_of result) }
-
-    // For want of memory nothing was written.
     ensures memory { result.status ≡ 9 → Keeps (O.taken out.old) (O.taken out.new) }
     ensures no_run { result.status ≡ 9 → journal_of result ≡ [] }
-
-    // There is no other status. The host's texts stay, and no other name was loaded nor any saved.
     ensures status { IsSerialStatus result.status }
     ensures texts { H.texts host.new ≡ H.texts host.old }
-    ensures others { (other : List ℕ) → other ≢ (request_of order.now).file → H.load_faults host.new other ≡ H.load_faults host.old other }
+    ensures others { (other : List ℕ) → other ≢ (wanted_of job.entry).file → H.load_faults host.new other ≡ H.load_faults host.old other }
     ensures saves { H.save_faults host.new ≡ H.save_faults host.old }
 {
-    let Ok(answer) = answer_to(alloc, order, host) else {
+    let Ok(answer) = answer_to(alloc, job, host) else {
         return Ended {
             status: 9,
             journal: Sequence::new(alloc),
@@ -81,5 +59,57 @@ pub fn caf_serial<H: Host, O: Sink>(
             journal,
         },
         Err(_) => Ended { status: 8, journal },
+    }
+}
+
+/// Carries out an order that is built: loads the program's text from the host, reads and checks it, runs it or lists its
+/// code, and writes what is due to the sink.
+///
+/// | Status | Comes |
+/// |---|---|
+/// | 0 | the program has run to its end, or its code is listed |
+/// | 1 | an image has a trap |
+/// | 3 | the text is no accepted program, or one that doesn't run yet |
+/// | 4 | no image can go on |
+/// | 5 | the journal has as many entries as it may, and the program would go on |
+/// | 7 | the text can't be loaded |
+/// | 8 | the sink met a fault |
+/// | 9 | for want of memory |
+/// | 10 | the text is longer than 1,048,576 bytes |
+pub fn caf_serial<H: Host, O: Sink>(
+    alloc: Global,
+    order: &Order<'_>,
+    host: &mut H,
+    out: &mut O,
+) -> Ended
+    requires { IsTrue (is_some (wanted_in (request_of_order order.now))) }
+
+    // The sink took exactly what is due, and the status is that of what this is: the report of the run, a listing, or a
+    // line on why there is none.
+    ensures due { result.status ≢ 8 → result.status ≢ 9 → IsSomeAnd (wanted_in (request_of_order order.now)) (λ wanted.
+        let seen = seen_of (H.texts host.old) (H.load_faults host.old) (H.load_faults host.new) wanted.file in
+        TookDue (O.taken out.old) (O.taken out.new) seen wanted.work result.status (journal_of result)) }
+
+    // The sink met a fault in this call, exactly then, and took less than was due.
+    ensures part { result.status ≡ 8 → IsSomeAnd (wanted_in (request_of_order order.now)) (λ wanted.
+        let seen = seen_of (H.texts host.old) (H.load_faults host.old) (H.load_faults host.new) wanted.file in
+        TookPartDue (O.taken out.old) (O.taken out.new) seen wanted.work (journal_of result)) }
+    ensures sink_failed { result.status ≡ 8 → Rose (O.faults out.old) (O.faults out.new) }
+    ensures sink_stood { result.status ≢ 8 → O.faults out.new ≡ O.faults out.old }
+
+    // For want of memory nothing was written.
+    ensures memory { result.status ≡ 9 → Keeps (O.taken out.old) (O.taken out.new) }
+    ensures no_run { result.status ≡ 9 → journal_of result ≡ [] }
+
+    // There is no other status. The host's texts stay, and no other name was loaded nor any saved.
+    ensures status { IsSerialStatus result.status }
+    ensures texts { H.texts host.new ≡ H.texts host.old }
+    ensures others { IsSomeAnd (wanted_in (request_of_order order.now)) (λ wanted.
+        (other : List ℕ) → other ≢ wanted.file → H.load_faults host.new other ≡ H.load_faults host.old other) }
+    ensures saves { H.save_faults host.new ≡ H.save_faults host.old }
+{
+    match job_of(order) {
+        Some(job) => carry_out(alloc, job, host, out),
+        None => unreachable!(),
     }
 }
