@@ -3,7 +3,7 @@ use std::test::Fail;
 
 /// Small programs for the rules on names, kinds and ships: the text, and the line that is written of its first fault, or the word
 /// `accepted` where it has none, so that it runs or the answer is `not yet`.
-const KINDS: [(&[u8], &str); 289] = [
+const KINDS: [(&[u8], &str); 301] = [
     (
         b"program p
 x = 1
@@ -2748,6 +2748,54 @@ end subroutine
 end program
 ",
         "refused: line 3: undeclared x\n",
+    ),
+    (
+        b"program p; x = 1; end\n",
+        "refused: line 1: undeclared x\n",
+    ),
+    (
+        b"program p; integer :: x, x; end\n",
+        "refused: line 1: twice x\n",
+    ),
+    (
+        b"program p; integer :: x; x = .true.; end\n",
+        "refused: line 1: kind =\n",
+    ),
+    (
+        b"program p; call f(1); contains; subroutine f; end; end\n",
+        "refused: line 1: count f\n",
+    ),
+    (
+        b"program p; integer :: x; x[0] = 1; end\n",
+        "refused: line 1: coarray x\n",
+    ),
+    (
+        b"program p; integer :: i; do i = 1, 2; i = 3; end do; end\n",
+        "refused: line 1: do variable i\n",
+    ),
+    (
+        b"program p; integer, parameter :: n = 1; n = 2; end\n",
+        "refused: line 1: read only n\n",
+    ),
+    (
+        b"program p; integer, parameter :: n = 1/0; end\n",
+        "refused: line 1: constant n\n",
+    ),
+    (
+        b"program p; integer :: a(65537); end\n",
+        "refused: line 1: cells a\n",
+    ),
+    (
+        b"program p; spawn f()[0]; contains; subroutine f; finish; end finish; end; end\n",
+        "refused: line 1: collective f\n",
+    ),
+    (
+        b"program p; integer :: x; spawn f(x)[0]; contains; subroutine f(k); integer, intent(inout) :: k; end; end\n",
+        "refused: line 1: inout k\n",
+    ),
+    (
+        b"program p; event :: e; event_wait(e); end\n",
+        "refused: line 1: not yet\n",
     ),
 ];
 

@@ -3,7 +3,7 @@ use std::test::Fail;
 
 /// Texts that are refused before names are looked at, and what is written of each: the first fault of the tokens, else the first
 /// token that doesn't fit, else a nesting of more than 100 levels.
-const REFUSED: [(&[u8], &str); 120] = [
+const REFUSED: [(&[u8], &str); 121] = [
     (
         b"\xc3\xa4
 program p
@@ -1254,6 +1254,10 @@ end finish
 end program
 ",
         "refused: line 101: deep\n",
+    ),
+    (
+        b"program p; print *, (((((((((((((((((((((((((((((((((((((((((((((((((((((((((((((((((((((((((((((((((((((((((((((((((((((1 &\n)))))))))))))))))))))))))))))))))))))))))))))))))))))))))))))))))))))))))))))))))))))))))))))))))))))\nend\n",
+        "refused: line 1: deep\n",
     ),
 ];
 
