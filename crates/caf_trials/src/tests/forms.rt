@@ -941,3 +941,38 @@ fn each_form_is_printed_and_read_again(rt: HostRuntime) -> Result<(), Fail> {
     }
     Ok(())
 }
+
+/// Texts, and their prints: blanks between tokens, the quote that needs fewer doublings, an `else if`, and a token that may end
+/// at the 130th byte of its line.
+const PRINTS: [(&[u8], &[u8]); 5] = [
+    (
+        b"program p\nx=-A*B\nend\n",
+        b"program p\n  x = - a * b\nend program\n",
+    ),
+    (
+        b"program p; print*,'it''s',\"a\"\"'b\"; end\n",
+        b"program p\n  print * , \"it's\" , 'a\"''b'\nend program\n",
+    ),
+    (
+        b"program p\nif(b)then;elseif(b)then;endif\nend\n",
+        b"program p\n  if ( b ) then\n  else if ( b ) then\n  end if\nend program\n",
+    ),
+    (
+        b"program p\nprint *, 'aaaaaaaaaaaaaaaaaaaaaaaaaaaaaaaaaaaaaaaaaaaaaaaaaaaaaaaaaaaaaaaaaaaaaaaaaaaaaaaaaaaaaaaaaaaaaaaaaaaaaaaaaaaaaa', 'b'\nend\n",
+        b"program p\n  print * , 'aaaaaaaaaaaaaaaaaaaaaaaaaaaaaaaaaaaaaaaaaaaaaaaaaaaaaaaaaaaaaaaaaaaaaaaaaaaaaaaaaaaaaaaaaaaaaaaaaaaaaaaaaaaaaa' , 'b'\nend program\n",
+    ),
+    (
+        b"program p\nprint *, 'aaaaaaaaaaaaaaaaaaaaaaaaaaaaaaaaaaaaaaaaaaaaaaaaaaaaaaaaaaaaaaaaaaaaaaaaaaaaaaaaaaaaaaaaaaaaaaaaaaaaaaaaaaaaaaa', 'b'\nend\n",
+        b"program p\n  print * , 'aaaaaaaaaaaaaaaaaaaaaaaaaaaaaaaaaaaaaaaaaaaaaaaaaaaaaaaaaaaaaaaaaaaaaaaaaaaaaaaaaaaaaaaaaaaaaaaaaaaaaaaaaaaaaaa' , &\n'b'\nend program\n",
+    ),
+];
+
+#[test]
+fn a_print_has_one_statement_a_line(rt: HostRuntime) -> Result<(), Fail> {
+    let alloc = rt.alloc();
+    for (text, print) in &PRINTS {
+        let printed = printed_again(&rt, alloc, text)?;
+        assert_eq!(rt; printed.as_slice(), *print);
+    }
+    Ok(())
+}
