@@ -1,11 +1,7 @@
 -- A statement of a form that runs so far reads nothing, so that its next Step is its last.
 use Rattle.std.proofs.lemmas.Bool.{eqb-true, false≢true}
 use Rattle.std.specs.List.{flat_map}
-use Rattle.std.proofs.Common.{◌≡◌, ℕ, ◌+◌, ◌++◌, ◌≤◌, List, ◌∷◌, Bool, Option, None, slice_get, length, Result, IfOk, IsTrue, map, ◌&&◌, arith, refl, sym, ap, subst, ◌∙◌, []}
-use Rattle.caf_base.specs.declared.effect.Effect.{Effect}
-use Rattle.caf_base.specs.declared.fence.FenceClear.{FenceClear}
-use Rattle.caf_base.specs.declared.memory.Memory.{Memory}
-use Rattle.caf_base.specs.ImageMemory.{ImageMemory}
+use Rattle.std.proofs.Common.{◌≡◌, ℕ, ◌+◌, ◌++◌, ◌≤◌, List, ◌∷◌, Bool, None, slice_get, IsTrue, map, ◌&&◌, arith, refl, subst, []}
 use Rattle.caf_program.specs.declared.expr.ExprR.{ExprR}
 use Rattle.caf_program.specs.declared.parts.ActualR.{ActualR}
 use Rattle.caf_program.specs.declared.parts.ActualR.TheVariants as actual
@@ -13,19 +9,14 @@ use Rattle.caf_program.specs.declared.parts.PrintR.{PrintR}
 use Rattle.caf_program.specs.declared.parts.PrintR.TheVariants as part
 use Rattle.caf_program.specs.declared.parts.VariableR.{VariableR}
 use Rattle.caf_program.specs.declared.parts.VariableR.TheVariants as variable
-use Rattle.caf_program.specs.declared.program.SubR.{SubR}
 use Rattle.caf_program.specs.declared.stmt.StmtR.{StmtR}
 use Rattle.caf_program.specs.declared.stmt.StmtR.TheFolds.{fold_out-StmtR, map-StmtR}
 use Rattle.caf_program.specs.declared.stmt.StmtR.TheOpen.{StmtR-F}
-use Rattle.caf_program.specs.declared.stmt.StmtR.TheViews.{out-StmtR, roll-StmtR}
+use Rattle.caf_program.specs.declared.stmt.StmtR.TheViews.{out-StmtR}
 use Rattle.caf_program.specs.Expressions.{count_all, of_actual, of_form, of_part, of_variable, reads_all}
 use Rattle.caf_program.specs.Value.{count}
 use Rattle.caf_source.specs.Built.{all_true, built_layer, is_actual_plain, is_built, is_here, is_part_plain, is_plain}
-use Rattle.caf_treestep.specs.declared.task.Task.{Task}
-use Rattle.caf_treestep.specs.declared.todo.Todo.{Todo}
-use Rattle.caf_treestep.specs.declared.todo.Todo.TheVariants as item
-use Rattle.caf_treestep.specs.Step.{does, does_first, does_last, does_next, standing, step, unless_waiting}
-use Rattle.caf_treestep.specs.Stood.{Leaves}
+use Rattle.caf_treestep.specs.Step.{step}
 use Rattle.caf_source.proofs.Both.{and_first, and_second}
 
 -- what two lists of expressions hold

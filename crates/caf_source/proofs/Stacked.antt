@@ -1,6 +1,6 @@
 -- A Step of a main task leaves a main task, and blocks only at the end of the program.
 use Rattle.std.proofs.lemmas.Bool.{false≢true}
-use Rattle.std.proofs.Common.{◌≡◌, ℕ, zero, suc, ◌-◌, List, [], ◌∷◌, ◌++◌, Bool, true, false, not, ◌&&◌, Option, None, Some, Result, Ok, Err, ℤ, IsTrue, refl, sym, ap, subst, ◌∙◌, nat_le, slice_get, length, if◌then◌else◌}
+use Rattle.std.proofs.Common.{◌≡◌, ℕ, zero, suc, ◌-◌, List, [], ◌∷◌, ◌++◌, Bool, true, false, ◌&&◌, Option, None, Some, Result, Ok, Err, ℤ, IsTrue, refl, sym, ap, subst, ◌∙◌, nat_le, slice_get, length, if◌then◌else◌}
 use Rattle.caf_base.specs.After.{After}
 use Rattle.caf_base.specs.Arithmetic.{is_zero}
 use Rattle.caf_base.specs.ImageMemory.{ImageMemory}
@@ -27,9 +27,9 @@ use Rattle.caf_treestep.specs.declared.todo.CopyOut.{CopyOut}
 use Rattle.caf_treestep.specs.declared.todo.Todo.{Todo}
 use Rattle.caf_treestep.specs.declared.todo.Todo.TheVariants as item
 use Rattle.caf_treestep.specs.Evaluated.{arguments_of, outs_from}
-use Rattle.caf_treestep.specs.Step.{At, Variables, assigned, assigns, called, does, does_first, does_last, does_next, frame_of, given, goes_in, goes_on, kept, loop_begun, main_task, opened, printed, ran, returns_to, seen, step, turn_taken, turns, unless_waiting, variables}
+use Rattle.caf_treestep.specs.Step.{At, assigned, assigns, called, does, does_first, does_last, does_next, frame_of, given, goes_in, goes_on, kept, loop_begun, main_task, opened, printed, ran, returns_to, seen, step, turn_taken, turns, unless_waiting, variables}
 use Rattle.caf_treestep.specs.Task.{all_of}
-use Rattle.caf_source.specs.Built.{are_subs_built, built_layer, is_block_built, is_built, is_here, is_plain}
+use Rattle.caf_source.specs.Built.{are_subs_built, built_layer, is_block_built, is_built, is_here}
 use Rattle.caf_source.specs.Main.{IsMainTask, are_stacked, ends_as, is_nothing}
 use Rattle.caf_source.specs.Plain.{all_clear, is_frame_built, is_still}
 use Rattle.caf_source.proofs.Both.{and_first, and_second}

@@ -5,7 +5,7 @@ use Rattle.caf_source.specs.declared.choice.Choice.{Choice}
 use Rattle.caf_source.specs.declared.stepped.Stepped.{Stepped}
 use Rattle.caf_source.specs.declared.stepped.Stepped.TheVariants as stepped
 use Rattle.caf_source.specs.Next.{next}
-use Rattle.caf_source.specs.Plain.{IsPlain}
+use Rattle.caf_source.specs.Placed.{ArePlaceable}
 use Rattle.caf_source.specs.State.{State, first}
 use Rattle.caf_source.specs.Stepping.{Makes}
 
@@ -22,9 +22,9 @@ begun p images = record { state = first p images; done = 0; failed = false }
 
 abbrev pub IsReady : Bool → State → Type 0
 IsReady true s = Unit {0}
-IsReady false s = IsPlain s
+IsReady false s = ArePlaceable s.images
 
--- the state is one in which the forms that run so far stand; or memory was wanting once, and then no choice is made
+-- Each image's memory is one that a Step can run on; or memory was wanting once, and then no choice is made.
 abbrev pub CanGoOn : Kept → Type 0
 CanGoOn k = IsReady k.failed k.state
 

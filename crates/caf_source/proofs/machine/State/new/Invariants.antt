@@ -6,4 +6,4 @@ use Rattle.caf_source.proofs.machine.State.new.Given as goal
 
 -- the images so far
 abbrev pub invariant-loop-image : goal.invariant-loop-image
-invariant-loop-image l = l.all.items ≡ map (λ image. start_image l.program (start_memory l.program.objects l.images image)) (below l.image)
+invariant-loop-image l = l.all.items ≡ map (λ image. start_image l.a (start_memory l.a.objects l.images image)) (below l.image)
