@@ -72,7 +72,13 @@ wants 2 "$usage" step empty 1 1 100 --trace t
 wants 2 "$usage" step empty 2 1 100
 wants 2 "$usage" run empty 1 1 100
 wants 2 "$usage" replay empty 1 t
-wants 2 "$usage" check empty 1 t
+wants 7 'cannot read t' check "$one" 2 t
+printf 'step 0 0\nstep 1 0\n' >trace
+wants 6 '0: 14' check "$one" 2 trace
+printf 'step 0 0\nstep 0 0\n' >twice
+wants 11 'trace refused at line 2' check "$one" 2 twice
+wants 3 'refused: line 1: syntax' check empty 1 trace
+wants 2 "$usage" check "$one" 65 trace
 wants 2 "$usage" gen 7
 
 # the longest text, which is one.f90 and then comments, and the same text with the line ends of other systems

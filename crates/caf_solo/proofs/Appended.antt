@@ -7,7 +7,7 @@ use Rattle.caf_program.specs.declared.program.Program.{Program}
 use Rattle.caf_source.specs.declared.choice.Choice.{Choice}
 use Rattle.caf_source.specs.Run.{state_from, then_next}
 use Rattle.caf_source.specs.State.{State, first}
-use Rattle.caf_solo.specs.Choices.{choice_of, choices_of, state_of}
+use Rattle.caf_check.specs.Choices.{choice_of, choices_of, state_of}
 use Rattle.caf_solo.specs.Waves.{is_allowed, is_legal, is_legal_after, late_from, may_follow, result_from, share_from}
 
 pub late_more : (b : Bool) (j : List Entry) (e : Entry) → late_from b (j ++ e ∷ []) ≡ late_from (late_from b j) (e ∷ [])

@@ -35,7 +35,7 @@ use Rattle.caf_source.specs.State.{State}
 use Rattle.caf_treestep.specs.declared.task.Task.{Task as TreeTask}
 use Rattle.caf_treestep.specs.declared.todo.Todo.TheVariants as item
 use Rattle.caf_treestep.specs.Step.{main_task as tree_main_task, step}
-use Rattle.caf_solo.specs.Choices.{choice_of, state_of}
+use Rattle.caf_check.specs.Choices.{choice_of, state_of}
 use Rattle.caf_solo.specs.Followed.{Follows, state_in}
 use Rattle.caf_solo.specs.Led.{led}
 use Rattle.caf_solo.specs.Waves.{has_ended, is_late, late_from, no_counts, result_from, share, share_from, stands_at_end}

@@ -17,7 +17,7 @@ use Rattle.caf_codegen.specs.Agreement.{Agree}
 use Rattle.caf_code.specs.Whole.{IsSettled}
 use Rattle.caf_solo.specs.declared.phase.Phase.{Phase}
 use Rattle.caf_solo.specs.declared.phase.Phase.TheVariants as phase
-use Rattle.caf_solo.specs.Choices.{state_of}
+use Rattle.caf_check.specs.Choices.{state_of}
 use Rattle.caf_solo.specs.Waves.{has_ended, is_late, is_legal, share}
 
 -- the image with this memory and main task, and with a trap or none

@@ -1,4 +1,3 @@
-pub mod Choices
 pub mod Waves
 pub mod RunOf
 pub mod Followed

@@ -8,7 +8,7 @@ use Rattle.caf_journal.specs.declared.entry.Entry.{Entry}
 use Rattle.caf_program.specs.declared.program.Program.{Program}
 use Rattle.caf_source.specs.Run.{Tells}
 use Rattle.caf_source.specs.State.{State}
-use Rattle.caf_solo.specs.Choices.{state_of}
+use Rattle.caf_check.specs.Choices.{state_of}
 use Rattle.caf_solo.specs.Led.{ending_in, trap_in}
 use Rattle.caf_solo.specs.Waves.{is_legal}
 use Rattle.caf_solo.specs.declared.phase.Phase.{Phase}

@@ -11,7 +11,7 @@ use Rattle.caf_source.specs.declared.choice.Choice.TheVariants as choice
 use Rattle.caf_source.specs.declared.state.Image.{Image}
 use Rattle.caf_source.specs.Next.{next, running_in, standing}
 use Rattle.caf_source.specs.State.{State}
-use Rattle.caf_solo.specs.Choices.{state_of}
+use Rattle.caf_check.specs.Choices.{state_of}
 
 -- whether the image has contributed after its last result, where it had before these entries or not
 abbrev pub late_from : Bool → List Entry → Bool

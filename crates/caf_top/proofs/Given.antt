@@ -4,7 +4,7 @@ use Rattle.caf_journal.specs.declared.entry.Entry.{Entry}
 use Rattle.caf_outside.specs.Texts.{Has}
 use Rattle.caf_top.specs.declared.answer.Answer.{Answer}
 use Rattle.caf_top.specs.declared.answer.Due.{Due}
-use Rattle.caf_top.specs.declared.answer.Due.TheVariants.{Done, Trapped, Refused, Stuck, Spent, Unreadable, TooLong}
+use Rattle.caf_top.specs.declared.answer.Due.TheVariants.{Done, Trapped, Refused, Stuck, Spent, Paused, Unreadable, TooLong, TraceRefused}
 use Rattle.caf_top.specs.declared.job.Work.{Work}
 use Rattle.caf_top.specs.Promise.{Gives, IsDue, IsGiven, Seen, limit}
 
@@ -17,6 +17,8 @@ given_is_due host w bytes Trapped journal text stood held within given = loaded 
 given_is_due host w bytes Refused journal text stood held within given = loaded host w bytes Refused journal text stood held within given
 given_is_due host w bytes Stuck journal text stood held within given = loaded host w bytes Stuck journal text stood held within given
 given_is_due host w bytes Spent journal text stood held within given = loaded host w bytes Spent journal text stood held within given
+given_is_due host w bytes Paused journal text stood held within given = absurd given
+given_is_due host w bytes TraceRefused journal text stood held within given = absurd given
 given_is_due host w bytes Unreadable journal text stood held within given = absurd given
 given_is_due host w bytes TooLong journal text stood held within given = absurd given
 

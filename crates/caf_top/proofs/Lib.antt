@@ -3,3 +3,4 @@ mod Given
 mod Stages
 mod Carried
 mod Laws
+mod Checking

@@ -1,17 +1,19 @@
 -- What the parts of a call give: a report, a listing, or the line of a refusal.
-use Rattle.std.specs.Prelude.{◌≡◌, ℕ, List, [], codes, Option, Some, None}
+use Rattle.std.specs.Prelude.{◌≡◌, ◌++◌, ℕ, List, [], codes, Option, Some, None}
 use Rattle.caf_base.specs.declared.summary.Summary.{Summary}
 use Rattle.caf_code.specs.Listing.{listing_text}
 use Rattle.caf_code.specs.Rules.{KeepsRules}
 use Rattle.caf_code.specs.declared.listing.Listing.{Listing}
 use Rattle.caf_codegen.specs.Compiled.{Compiled}
 use Rattle.caf_journal.specs.declared.entry.Entry.{Entry}
+use Rattle.caf_outside.specs.declared.fault.LoadFail.{LoadFail}
+use Rattle.caf_outside.specs.declared.fault.LoadFail.TheVariants as fail
 use Rattle.caf_program.specs.declared.program.Program.{Program}
 use Rattle.caf_report.specs.Report.{report_text}
 use Rattle.caf_solo.specs.RunOf.{IsRunOf}
 use Rattle.caf_unbuilt.specs.Unbuilt.{first_unbuilt}
 use Rattle.caf_top.specs.declared.answer.Due.{Due}
-use Rattle.caf_top.specs.declared.answer.Due.TheVariants.{Done, Refused}
+use Rattle.caf_top.specs.declared.answer.Due.TheVariants.{Done, Refused, Unreadable, TooLong}
 use Rattle.caf_top.specs.declared.job.Work.{Work}
 use Rattle.caf_top.specs.declared.job.Work.TheVariants as work
 use Rattle.caf_top.specs.Promise.{due_of_ending}
@@ -51,6 +53,12 @@ pub record IsRefusal (told : Told) (due : Due) (journal : List Entry) (text : Li
 abbrev pub IsStopped : Stop → Due → List Entry → List ℕ → Type 0
 IsStopped (stop.Refused r) due journal text = IsRefusal (told_by r) due journal text
 IsStopped stop.Memory due journal text = ⊥
+
+-- the line on a name that gave no text
+abbrev pub IsTold : LoadFail → List ℕ → Due → List Entry → List ℕ → Type 0
+IsTold fail.Failed name due journal text = (due ≡ Unreadable) × (journal ≡ []) × (text ≡ codes "cannot read " ++ name ++ codes "\n")
+IsTold fail.TooLong name due journal text = (due ≡ TooLong) × (journal ≡ []) × (text ≡ codes "too long " ++ name ++ codes "\n")
+IsTold fail.Memory name due journal text = ⊥
 
 -- what is wanted, unless a statement on this line doesn't run yet
 abbrev pub WroteUnless : Option ℕ → Work → Program → Due → List Entry → List ℕ → Type 0

@@ -5,4 +5,6 @@ pub mod Wanted
 pub mod Orders
 pub mod Ended
 pub mod Promise
+pub mod Check
+pub mod Dues
 pub mod Answers

@@ -15,16 +15,19 @@ use Rattle.caf_report.specs.Report.{report_text}
 use Rattle.caf_solo.specs.RunOf.{IsRunOf}
 use Rattle.caf_unbuilt.specs.Unbuilt.{first_unbuilt}
 use Rattle.caf_top.specs.declared.answer.Due.{Due}
-use Rattle.caf_top.specs.declared.answer.Due.TheVariants.{Done, Trapped, Refused, Stuck, Spent, Unreadable, TooLong}
+use Rattle.caf_top.specs.declared.answer.Due.TheVariants.{Done, Trapped, Refused, Stuck, Spent, Paused, Unreadable, TooLong, TraceRefused}
 use Rattle.caf_top.specs.declared.job.Work.{Work}
 use Rattle.caf_top.specs.declared.job.Work.TheVariants as work
 use Rattle.caf_top.specs.Refusals.{Told, IsWrong, IsUnbuilt, refusal_line}
 use Rattle.caf_top.specs.Sees.{Sees}
 use Rattle.caf_top.specs.Wanted.{usage, wanted_by}
 
--- the longest program text
+-- the longest program text, and the longest trace
 abbrev pub limit : ℕ
 limit = 1048576
+
+abbrev pub trace_limit : ℕ
+trace_limit = 67108864
 
 -- ---- what a call saw of the host
 
@@ -40,12 +43,13 @@ pub record Seen : Type 0 where
 abbrev pub seen_of : Option Texts → (List ℕ → ℕ) → (List ℕ → ℕ) → List ℕ → Seen
 seen_of texts before now name = record { texts = texts; name = name; failed_before = before name; failed_now = now name }
 
--- no load of the name failed, and a text within the limit has P: the one under the name, where the host tells its texts
-pub record IsLoaded (host : Seen) (P : List ℕ → Type 0) : Type 0 where
+-- no load of the name failed, and a text of at most so many bytes has P: the one under the name, where the host tells its
+-- texts
+pub record IsLoaded (host : Seen) (most : ℕ) (P : List ℕ → Type 0) : Type 0 where
   pub stood : host.failed_now ≡ host.failed_before
   pub bytes : List ℕ
   pub held : Has host.texts host.name (λ held. bytes ≡ held)
-  pub within : length bytes ≤ limit
+  pub within : length bytes ≤ most
   pub has : P bytes
 
 -- ---- what a text gives
@@ -98,8 +102,7 @@ IsGiven w Trapped bytes journal text = Ends w ending.Trapped bytes journal text
 IsGiven w Stuck bytes journal text = Ends w ending.Stuck bytes journal text
 IsGiven w Spent bytes journal text = Ends w ending.Going bytes journal text
 IsGiven w Refused bytes journal text = Refuses bytes journal text
-IsGiven w Unreadable bytes journal text = ⊥
-IsGiven w TooLong bytes journal text = ⊥
+IsGiven w _ bytes journal text = ⊥
 
 -- ---- what is due to be written
 
@@ -110,25 +113,31 @@ status_of Trapped = 1
 status_of Refused = 3
 status_of Stuck = 4
 status_of Spent = 5
+status_of Paused = 6
 status_of Unreadable = 7
 status_of TooLong = 10
+status_of TraceRefused = 11
 
 -- a text was loaded, and gives this
 abbrev pub Gives : Seen → Work → Due → List Entry → List ℕ → Type 0
-Gives host w due journal text = IsLoaded host (λ bytes. IsGiven w due bytes journal text)
+Gives host w due journal text = IsLoaded host limit (λ bytes. IsGiven w due bytes journal text)
 
 -- a load of the name failed
-pub record IsUnreadable (host : Seen) (journal : List Entry) (text : List ℕ) : Type 0 where
+pub record IsUnreadable (host : Seen) (text : List ℕ) : Type 0 where
   pub rose : host.failed_before < host.failed_now
-  pub no_run : journal ≡ []
   pub line : text ≡ codes "cannot read " ++ host.name ++ codes "\n"
 
--- no load of the name failed, and the text under it is longer than the limit
-pub record IsTooLong (host : Seen) (journal : List Entry) (text : List ℕ) : Type 0 where
+-- no load of the name failed, and the text under it has more bytes than this
+pub record IsTooLong (host : Seen) (most : ℕ) (text : List ℕ) : Type 0 where
   pub stood : host.failed_now ≡ host.failed_before
-  pub long : Has host.texts host.name (λ held. limit < length held)
-  pub no_run : journal ≡ []
+  pub long : Has host.texts host.name (λ held. most < length held)
   pub line : text ≡ codes "too long " ++ host.name ++ codes "\n"
+
+-- a name gave no text
+abbrev pub IsUnloaded : Seen → ℕ → Due → List ℕ → Type 0
+IsUnloaded host most Unreadable text = IsUnreadable host text
+IsUnloaded host most TooLong text = IsTooLong host most text
+IsUnloaded host most _ text = ⊥
 
 -- the words want nothing that is built
 pub record IsUsage (words : List (List ℕ)) (journal : List Entry) (text : List ℕ) : Type 0 where
@@ -136,10 +145,10 @@ pub record IsUsage (words : List (List ℕ)) (journal : List Entry) (text : List
   pub no_run : journal ≡ []
   pub lines : text ≡ usage
 
--- what is due to be written, whatever the sink does
+-- what is due of a program by itself
 abbrev pub IsDue : Seen → Work → Due → List Entry → List ℕ → Type 0
-IsDue host w Unreadable journal text = IsUnreadable host journal text
-IsDue host w TooLong journal text = IsTooLong host journal text
+IsDue host w Unreadable journal text = IsUnreadable host text × (journal ≡ [])
+IsDue host w TooLong journal text = IsTooLong host limit text × (journal ≡ [])
 IsDue host w due journal text = Gives host w due journal text
 
 -- the sink took a text that has P, and no other byte
@@ -150,14 +159,6 @@ Took old new P = (text : List ℕ) × P text × Appends old new text
 abbrev pub TookPart : Option (List ℕ) → Option (List ℕ) → (List ℕ → Type 0) → Type 0
 TookPart old new P = (text : List ℕ) × (n : ℕ) × P text × (n < length text) × Appends old new (take n text)
 
--- the sink took exactly what was due, and the status is that of what this is
-abbrev pub TookDue : Option (List ℕ) → Option (List ℕ) → Seen → Work → ℕ → List Entry → Type 0
-TookDue old new host w status journal = (due : Due) × (status ≡ status_of due) × Took old new (IsDue host w due journal)
-
--- the sink took a part of what was due, and not all of it
-abbrev pub TookPartDue : Option (List ℕ) → Option (List ℕ) → Seen → Work → List Entry → Type 0
-TookPartDue old new host w journal = (due : Due) × TookPart old new (IsDue host w due journal)
-
 -- how a run ends, as what is due
 abbrev pub due_of_ending : Ending → Due
 due_of_ending ending.Done = Done
@@ -167,7 +168,7 @@ due_of_ending ending.Going = Spent
 
 -- the statuses of what is built, and with that for words which want nothing of it
 abbrev pub IsSerialStatus : ℕ → Type 0
-IsSerialStatus s = (s ≡ 0) ⊎ (s ≡ 1) ⊎ (s ≡ 3) ⊎ (s ≡ 4) ⊎ (s ≡ 5) ⊎ (s ≡ 7) ⊎ (s ≡ 8) ⊎ (s ≡ 9) ⊎ (s ≡ 10)
+IsSerialStatus s = (s ≡ 0) ⊎ (s ≡ 1) ⊎ (s ≡ 3) ⊎ (s ≡ 4) ⊎ (s ≡ 5) ⊎ (s ≡ 6) ⊎ (s ≡ 7) ⊎ (s ≡ 8) ⊎ (s ≡ 9) ⊎ (s ≡ 10) ⊎ (s ≡ 11)
 
 abbrev pub IsMainStatus : ℕ → Type 0
 IsMainStatus s = (s ≡ 2) ⊎ IsSerialStatus s

@@ -1,12 +1,14 @@
 ghost use Rattle.std.specs.Prelude.{◌≡◌, ◌≢◌, ◌≤◌, ◌<◌, ◌^◌, ◌++◌, ℕ, List, [], None, codes, length, IfOk, IsTrue};
 ghost use Rattle.caf_outside.specs.Texts.{Has};
 ghost use Rattle.caf_source.specs.Built.{is_program_built};
-ghost use Rattle.caf_top.specs.Answers.{CarriedOut, IsListing, IsRefusal, IsReport, IsStopped, Wrote};
+ghost use Rattle.caf_top.specs.Answers.{CarriedOut, IsListing, IsRefusal, IsReport, IsStopped, IsTold, Wrote};
 ghost use Rattle.caf_top.specs.Promise.{IsDue, IsGiven, Seen, due_of_ending, limit, seen_of};
+ghost use Rattle.caf_top.specs.Dues.{IsWantedDue, host_of};
 ghost use Rattle.caf_top.specs.Reading.{told_by};
-ghost use Rattle.caf_top.specs.Wanted.{wanted_of};
+ghost use Rattle.caf_top.specs.Wanted.{IsOnImages, IsOther, wanted_of};
 ghost use Rattle.caf_unbuilt.specs.Unbuilt.{first_unbuilt as first};
 
+use crate::check::check_answer;
 use crate::job::{Job, Work};
 use crate::read::read_program;
 use crate::refusal::{Refusal, Stop, line_of, refused};
@@ -22,7 +24,7 @@ use caf_unbuilt::first_unbuilt;
 use std::alloc::Global;
 
 /// The longest program text, in bytes.
-const LIMIT: usize = 1_048_576;
+pub(crate) const LIMIT: usize = 1_048_576;
 
 /// What is due to be written: the report of a run by how it ends, a listing, or a line on why there is none.
 #[derive(Clone, Copy)]
@@ -33,8 +35,10 @@ pub(crate) enum Due {
     Refused,
     Stuck,
     Spent,
+    Paused,
     Unreadable,
     TooLong,
+    TraceRefused,
 }
 
 /// The text that is due to be written, what it is, and the journal of the run.
@@ -47,7 +51,7 @@ pub(crate) struct Answer {
 
 impl Answer {
     // A text without a run.
-    fn without_run(alloc: Global, due: Due, text: Vec<u8>) -> Answer
+    pub(crate) fn without_run(alloc: Global, due: Due, text: Vec<u8>) -> Answer
         ensures due { result.due ≡ due }
         ensures journal { result.journal ≡ [] }
         ensures text { result.text ≡ text }
@@ -105,7 +109,7 @@ fn told(alloc: Global, refusal: &Refusal) -> Result<Answer, Memory>
 }
 
 /// The same, where memory wasn't wanting before.
-fn stopped(alloc: Global, stop: &Stop) -> Result<Answer, Memory>
+pub(crate) fn stopped(alloc: Global, stop: &Stop) -> Result<Answer, Memory>
     ensures { IfOk result (λ answer. IsStopped stop.now answer.due answer.journal answer.text.items) }
 {
     match stop {
@@ -172,12 +176,41 @@ fn line_on(alloc: Global, front: &str, file: &str) -> Result<Vec<u8>, Memory>
     Ok(line)
 }
 
-/// A file that gives no text.
 fn not_loaded(alloc: Global, due: Due, front: &str, file: &str) -> Result<Answer, Memory>
     ensures { IfOk result (λ answer. (answer.due ≡ due) × (answer.journal ≡ []) × (answer.text.items ≡ front.now ++ file.now ++ codes "\n")) }
 {
     let line = line_on(alloc, front, file)?;
     Ok(Answer::without_run(alloc, due, line))
+}
+
+/// The line on a name that gives no text.
+pub(crate) fn unloaded(alloc: Global, fault: LoadFail, file: &str) -> Result<Answer, Memory>
+    ensures { IfOk result (λ answer. IsTold fault file.now answer.due answer.journal answer.text.items) }
+{
+    match fault {
+        LoadFail::Failed => not_loaded(alloc, Due::Unreadable, "cannot read ", file),
+        LoadFail::TooLong => not_loaded(alloc, Due::TooLong, "too long ", file),
+        LoadFail::Memory => Err(Memory),
+    }
+}
+
+/// What the answer for a file's program by itself is.
+fn answer_by_itself<H: Host>(
+    alloc: Global,
+    file: &str,
+    work: Work,
+    host: &mut H,
+) -> Result<Answer, Memory>
+    ensures due { let seen = seen_of (H.texts host.old) (H.load_faults host.old) (H.load_faults host.new) file.now in
+        IfOk result (λ answer. IsDue seen work answer.due answer.journal answer.text.items) }
+    ensures others { (other : List ℕ) → other ≢ file.now → H.load_faults host.new other ≡ H.load_faults host.old other }
+    ensures saves { H.save_faults host.new ≡ H.save_faults host.old }
+    ensures texts { H.texts host.new ≡ H.texts host.old }
+{
+    match host.load(alloc, file, LIMIT) {
+        Ok(bytes) => due_of(alloc, work, &bytes),
+        Err(fault) => unloaded(alloc, fault, file),
+    }
 }
 
 /// What the answer to a job is, before anything is written.
@@ -186,18 +219,19 @@ pub(crate) fn answer_to<H: Host>(
     job: Job<'_>,
     host: &mut H,
 ) -> Result<Answer, Memory>
-    ensures due { let wanted = wanted_of job.entry in
-        let seen = seen_of (H.texts host.old) (H.load_faults host.old) (H.load_faults host.new) wanted.file in
-        IfOk result (λ answer. IsDue seen wanted.work answer.due answer.journal answer.text.items) }
-    ensures others { (other : List ℕ) → other ≢ (wanted_of job.entry).file → H.load_faults host.new other ≡ H.load_faults host.old other }
+    requires { IsOnImages (wanted_of job) }
+    ensures due { let seen = host_of (H.texts host.old) (H.load_faults host.old) (H.load_faults host.new) in
+        IfOk result (λ answer. IsWantedDue seen (wanted_of job.entry) answer.due answer.journal answer.text.items) }
+    ensures others { (other : List ℕ) → IsOther (wanted_of job.entry) other → H.load_faults host.new other ≡ H.load_faults host.old other }
     ensures saves { H.save_faults host.new ≡ H.save_faults host.old }
     ensures texts { H.texts host.new ≡ H.texts host.old }
 {
-    let Job { file, work } = job;
-    match host.load(alloc, file, LIMIT) {
-        Ok(bytes) => due_of(alloc, work, &bytes),
-        Err(LoadFail::Failed) => not_loaded(alloc, Due::Unreadable, "cannot read ", file),
-        Err(LoadFail::TooLong) => not_loaded(alloc, Due::TooLong, "too long ", file),
-        Err(LoadFail::Memory) => Err(Memory),
+    match job {
+        Job::Program { file, work } => answer_by_itself(alloc, file, work, host),
+        Job::Check {
+            file,
+            images,
+            trace,
+        } => check_answer(alloc, file, images, trace, host),
     }
 }

@@ -5,7 +5,7 @@ ghost use Rattle.caf_top.specs.Wanted.{wanted_in, wanted_of};
 
 use caf_words::Order;
 
-/// What is done with a program.
+/// What is done with a program by itself.
 #[derive(Clone, Copy)]
 pub(crate) enum Work {
     /// It runs on one image, up to so many entries of the journal.
@@ -14,11 +14,19 @@ pub(crate) enum Work {
     List,
 }
 
-/// A file, and what is done with its program.
+/// What is done with a file's program.
 #[derive(Clone, Copy)]
-pub(crate) struct Job<'a> {
-    pub(crate) file: &'a str,
-    pub(crate) work: Work,
+pub(crate) enum Job<'a> {
+    Program {
+        file: &'a str,
+        work: Work,
+    },
+    /// The source machine follows the choices of a trace, on 1 to 64 images.
+    Check {
+        file: &'a str,
+        images: u32,
+        trace: &'a str,
+    },
 }
 
 /// The job of an order, if it is built.
@@ -32,19 +40,28 @@ pub(crate) fn job_of<'a>(order: &Order<'a>) -> Option<Job<'a>>
             events,
             trace: None,
             ..
-        } => Some(Job {
+        } => Some(Job::Program {
             file,
             work: Work::Run { events },
         }),
-        Order::List { file } => Some(Job {
+        Order::List { file } => Some(Job::Program {
             file,
             work: Work::List,
+        }),
+        Order::Check {
+            file,
+            images,
+            trace,
+        } if 1 <= images && images <= 64 => Some(Job::Check {
+            file,
+            images,
+            trace,
         }),
         _ => None,
     }
 }
 
-/// Whether an order is built: a run on one image without a trace that is saved, or a listing.
+/// Whether an order is built: a run on one image without a trace that is saved, a listing, or a check on 1 to 64 images.
 pub fn is_built(order: &Order<'_>) -> bool
     ensures { result ≡ is_some (wanted_in (request_of_order order.now)) }
 {

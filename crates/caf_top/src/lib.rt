@@ -5,6 +5,7 @@
 #![tactic(auto)]
 
 mod answer;
+mod check;
 mod ended;
 mod job;
 mod law;

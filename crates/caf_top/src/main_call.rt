@@ -3,9 +3,10 @@ ghost use Rattle.std.specs.Io.KnownBytes.{Keeps};
 ghost use Rattle.caf_outside.specs.Causes.{Rose};
 ghost use Rattle.caf_words.specs.Requests.{asked_of, request_of_order, request_of};
 ghost use Rattle.caf_top.specs.Ended.{journal_of};
-ghost use Rattle.caf_top.specs.Promise.{IsMainStatus, IsUsage, Took, TookDue, TookPart, TookPartDue, seen_of};
+ghost use Rattle.caf_top.specs.Promise.{IsMainStatus, IsUsage, Took, TookPart};
+ghost use Rattle.caf_top.specs.Dues.{TookDue, TookPartDue, host_of};
 ghost use Rattle.caf_top.specs.Orders.{Orders};
-ghost use Rattle.caf_top.specs.Wanted.{usage, wanted_by};
+ghost use Rattle.caf_top.specs.Wanted.{IsOther, usage, wanted_by};
 
 use crate::ended::Ended;
 use crate::job::is_built;
@@ -64,14 +65,14 @@ pub fn caf_main<'a, R: Threads + Wait + Sync, H: Host, O: Sink>(
 
     // They want something of a file's program, and the call goes as `caf_serial` says.
     ensures due { result.status ≢ 2 → result.status ≢ 8 → result.status ≢ 9 → IsSomeAnd (wanted_by (map (λ word. word.now) words.now)) (λ wanted.
-        let seen = seen_of (H.texts host.old) (H.load_faults host.old) (H.load_faults host.new) wanted.file in
-        TookDue (O.taken out.old) (O.taken out.new) seen wanted.work result.status (journal_of result)) }
+        let seen = host_of (H.texts host.old) (H.load_faults host.old) (H.load_faults host.new) in
+        TookDue (O.taken out.old) (O.taken out.new) seen wanted result.status (journal_of result)) }
 
     // The sink met a fault in this call, exactly then, and took less than was due.
     ensures part { result.status ≡ 8 → TookPart (O.taken out.old) (O.taken out.new) (IsUsage (map (λ word. word.now) words.now) (journal_of result))
         ⊎ IsSomeAnd (wanted_by (map (λ word. word.now) words.now)) (λ wanted.
-        let seen = seen_of (H.texts host.old) (H.load_faults host.old) (H.load_faults host.new) wanted.file in
-        TookPartDue (O.taken out.old) (O.taken out.new) seen wanted.work (journal_of result)) }
+        let seen = host_of (H.texts host.old) (H.load_faults host.old) (H.load_faults host.new) in
+        TookPartDue (O.taken out.old) (O.taken out.new) seen wanted (journal_of result)) }
     ensures sink_failed { result.status ≡ 8 → Rose (O.faults out.old) (O.faults out.new) }
     ensures sink_stood { result.status ≢ 8 → O.faults out.new ≡ O.faults out.old }
 
@@ -83,7 +84,7 @@ pub fn caf_main<'a, R: Threads + Wait + Sync, H: Host, O: Sink>(
     ensures status { IsMainStatus result.status }
     ensures texts { H.texts host.new ≡ H.texts host.old }
     ensures others { IfSome (wanted_by (map (λ word. word.now) words.now)) (λ wanted.
-        (other : List ℕ) → other ≢ wanted.file → H.load_faults host.new other ≡ H.load_faults host.old other) }
+        (other : List ℕ) → IsOther wanted other → H.load_faults host.new other ≡ H.load_faults host.old other) }
     ensures saves { H.save_faults host.new ≡ H.save_faults host.old }
 {
     let Ok(order) = order_in(alloc, words) else {

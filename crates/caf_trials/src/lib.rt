@@ -1,5 +1,5 @@
-//! Tables of whole texts, and tests that carry them through the top call: what each program prints, by both machines; what is
-//! told of each text that is refused; and that each form of the language is printed and read again.
+//! Tables of whole texts: tests that carry traces through the top call, and that print each form of the language and read it
+//! again.
 #![tactic(auto)]
 
 #[cfg(test)]

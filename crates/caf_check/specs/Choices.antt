@@ -1,5 +1,5 @@
 -- The choices of a journal, and the state of the source machine that they lead to.
-use Rattle.std.specs.Prelude.{ℕ, List, [], ◌∷◌, ◌++◌, Option, Some}
+use Rattle.std.specs.Prelude.{ℕ, List, [], ◌∷◌, ◌++◌, Option}
 use Rattle.caf_journal.specs.declared.entry.Entry.{Entry}
 use Rattle.caf_journal.specs.declared.entry.Entry.TheVariants.{Step, Touch, Part, Leave, Ack, Return, Offer, Contribute, Relay, Result}
 use Rattle.caf_program.specs.declared.program.Program.{Program}
