@@ -11,6 +11,7 @@ pub mod Ready
 pub mod Saved
 pub mod Settled
 pub mod Shaped
+pub mod TrapsKept
 pub mod Turn
 pub mod Wanted
 pub mod Within

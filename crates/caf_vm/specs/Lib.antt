@@ -9,4 +9,5 @@ pub mod Ready
 pub mod Run
 pub mod Shape
 pub mod Task
+pub mod Traps
 pub mod Went

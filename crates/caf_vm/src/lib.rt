@@ -27,3 +27,5 @@ pub use task::Task;
 
 #[cfg(test)]
 mod tests;
+#[cfg(test)]
+mod traps;

@@ -37,7 +37,7 @@ fn object(kind: Kind, lower: i64, extent: u32) -> Object
 }
 
 /// An integer scalar, an integer array from 0 to 3, two events, a team, a copointer, and an array of 300 elements.
-fn objects(alloc: Global) -> Result<Sequence<Object>, Memory>
+pub fn objects(alloc: Global) -> Result<Sequence<Object>, Memory>
     ensures { IfOk result (λ objects. objects ≡ six_objects) }
 {
     Sequence::from_slice(
@@ -802,14 +802,22 @@ fn turn<R: Abort>(
     }
 }
 
+/// The task, or an equal one.
+fn same_task(task: Task, copied: bool) -> Result<Task, Memory>
+    ensures { IfOk result (λ same. same ≡ task) }
+{
+    if copied { task.again() } else { Ok(task) }
+}
+
 /// The effects of a task up to its end, without those of steps that did nothing more than run, and the memory after it.
-/// No fence lets the task pass at its first try.
+/// No fence lets the task pass at its first try. Where it is copied, an equal task takes its place before each step.
 fn run_task<R: Abort>(
     rt: &R,
     alloc: Global,
     code: &Code,
     task: Task,
     memory: ImageMemory,
+    copied: bool,
 ) -> Result<(Vec<Effect>, ImageMemory), Memory>
     requires sound { IsSound code.now task memory }
     requires settled { IsSettled code.now task }
@@ -818,6 +826,7 @@ fn run_task<R: Abort>(
     let mut memory = memory;
     let mut effects = Vec::new(alloc);
     for _step in 0..5000 {
+        task = same_task(task, copied)?;
         let is_clear = effects.len() > 0;
         let clear = FenceClear {
             reads: is_clear,
@@ -836,6 +845,7 @@ fn run<R: Abort>(
     alloc: Global,
     code: &Code,
     image: u32,
+    copied: bool,
 ) -> Result<(Vec<Effect>, ImageMemory), Memory>
     requires { image < 16 }
 {
@@ -843,11 +853,11 @@ fn run<R: Abort>(
     let listing = code.listing();
     let memory = ImageMemory::new(alloc, listing.objects.as_slice(), image, IMAGES)?;
     let task = Task::main(alloc, code)?;
-    run_task(rt, alloc, code, task, memory)
+    run_task(rt, alloc, code, task, memory, copied)
 }
 
 /// The main task of an image has these effects and prints these lines.
-fn expect<R: Abort>(
+pub fn expect<R: Abort>(
     rt: &R,
     alloc: Global,
     code: &Code,
@@ -856,7 +866,7 @@ fn expect<R: Abort>(
     lines: &[&str],
 ) -> Result<(), Memory> {
     assert!(rt; image < IMAGES);
-    let (found, memory) = run(rt, alloc, code, image)?;
+    let (found, memory) = run(rt, alloc, code, image, false)?;
     assert!(rt; found.as_slice() == effects, "the effects of image {image}");
     assert!(rt;
         memory.lines().len() == lines.len(),
@@ -869,7 +879,7 @@ fn expect<R: Abort>(
 }
 
 /// The main task of each of these images ends with its trap, and prints nothing.
-fn expect_traps<R: Abort>(
+pub fn expect_traps<R: Abort>(
     rt: &R,
     alloc: Global,
     code: &Code,
@@ -892,15 +902,34 @@ fn expect_many<R: Abort>(
     last: &str,
 ) -> Result<(), Memory> {
     assert!(rt; image < IMAGES);
-    let (effects, memory) = run(rt, alloc, code, image)?;
+    let (effects, memory) = run(rt, alloc, code, image, false)?;
     assert!(rt; effects.as_slice() == [Effect::Traps(trap)].as_slice());
     assert_eq!(rt; memory.lines().len(), count);
     assert_eq!(rt; memory.lines().last().map(|line| line.as_str()), Some(last));
     Ok(())
 }
 
+/// The main task of an image has the same effects where it is copied, and prints this line.
+pub fn expect_alike<R: Abort>(
+    rt: &R,
+    alloc: Global,
+    code: &Code,
+    image: u32,
+    line: &str,
+) -> Result<(), Memory> {
+    assert!(rt; image < IMAGES);
+    let (effects, _memory) = run(rt, alloc, code, image, false)?;
+    let (found, memory) = run(rt, alloc, code, image, true)?;
+    assert!(rt;
+        found.as_slice() == effects.as_slice(),
+        "the effects of image {image}"
+    );
+    assert_eq!(rt; memory.lines().last().map(|last| last.as_str()), Some(line));
+    Ok(())
+}
+
 // A section of the array from 0 to 3.
-fn section(image: u32, from: i64, extent: u32) -> Section {
+pub fn section(image: u32, from: i64, extent: u32) -> Section {
     Section {
         image,
         object: 1,
@@ -909,7 +938,7 @@ fn section(image: u32, from: i64, extent: u32) -> Section {
     }
 }
 
-fn event(image: u32, index: i64) -> EventAt
+pub fn event(image: u32, index: i64) -> EventAt
     ensures { result ≡ record { image = image; object = 2; index = index } }
 {
     EventAt {
@@ -931,11 +960,11 @@ fn run_shipped<R: Abort>(
     let listing = code.listing();
     let memory = ImageMemory::new(alloc, listing.objects.as_slice(), 1, IMAGES)?;
     let task = Task::shipped(alloc, code, 0, &[5], Some(event(1, 2)))?;
-    run_task(rt, alloc, code, task, memory)
+    run_task(rt, alloc, code, task, memory, false)
 }
 
 /// The team of all images.
-fn world(alloc: Global) -> Result<Team, Memory> {
+pub fn world(alloc: Global) -> Result<Team, Memory> {
     let mut members = Sequence::new(alloc);
     for image in 0..IMAGES {
         members.push(image)?;
@@ -946,9 +975,9 @@ fn world(alloc: Global) -> Result<Team, Memory> {
     })
 }
 
-const LEFT: Effect = Effect::Blocks(Need::Finish);
+pub const LEFT: Effect = Effect::Blocks(Need::Finish);
 
-const AWAITS: Effect = Effect::Blocks(Need::Operation);
+pub const AWAITS: Effect = Effect::Blocks(Need::Operation);
 
 #[test]
 fn reads_and_writes_begin_or_trap(rt: HostRuntime) -> Result<(), Fail> {
@@ -1111,5 +1140,15 @@ fn a_shipped_task_ends_with_its_event(rt: HostRuntime) -> Result<(), Fail> {
     let (effects, memory) = run_shipped(&rt, alloc, &code)?;
     assert!(rt; effects.as_slice() == [Effect::Ends(Some(event(1, 2)))].as_slice());
     assert_eq!(rt; memory.lines().len(), 1);
+    Ok(())
+}
+
+#[test]
+fn equal_tasks_go_on_alike(rt: HostRuntime) -> Result<(), Fail> {
+    let alloc = rt.alloc();
+    expect_alike(&rt, alloc, &accesses(alloc)?, 0, "42")?;
+    let code = teams(alloc)?;
+    expect_alike(&rt, alloc, &code, 2, "0 1")?;
+    expect_alike(&rt, alloc, &code, 8, "11")?;
     Ok(())
 }
