@@ -4,10 +4,13 @@ use Rattle.std.proofs.lemmas.Option.{none-some}
 use Rattle.std.proofs.Common.{◌≡◌, ℕ, zero, suc, true, false, List, [], ◌∷◌, Option, Some, None, Result, Ok, Err, IfOk, IfSome, IsTrue, ap, refl, sym, subst, ◌∙◌, get_or, is_some, slice_get, slice_set, ◌<◌, length, arith, ℤ, if◌then◌else◌}
 use Rattle.caf_base.specs.declared.fence.FenceClear.{FenceClear}
 use Rattle.caf_base.specs.declared.memory.Memory.{Memory}
+use Rattle.caf_base.specs.declared.operation.OpName.{OpName}
 use Rattle.caf_base.specs.declared.operation.Stage.{Stage}
 use Rattle.caf_base.specs.declared.team.FinishRef.{FinishRef}
 use Rattle.caf_base.specs.declared.team.Team.{Team}
 use Rattle.caf_base.specs.declared.trap.Trap.{Trap}
+use Rattle.caf_pending.specs.declared.operation.Operation.{Operation}
+use Rattle.caf_pending.specs.Pending.{clear_of}
 use Rattle.caf_program.specs.declared.program.Program.{Program}
 use Rattle.caf_program.specs.declared.program.SubR.{SubR}
 use Rattle.caf_source.specs.declared.choice.Choice.{Choice}
@@ -16,11 +19,10 @@ use Rattle.caf_source.specs.declared.outcome.Outcome.TheVariants as outcome
 use Rattle.caf_source.specs.declared.outcome.Touched.{Touched}
 use Rattle.caf_source.specs.declared.outcome.Touched.TheVariants as touched
 use Rattle.caf_source.specs.declared.state.Image.{Image}
-use Rattle.caf_source.specs.declared.state.Operation.{Operation}
 use Rattle.caf_source.specs.declared.stepped.Stepped.{Stepped}
 use Rattle.caf_source.specs.declared.stepped.Stepped.TheVariants as stepped
 use Rattle.caf_source.specs.Effects.{Did, did, image_step}
-use Rattle.caf_source.specs.Next.{after_did, after_reached, answered_image, answered_in, clear_of, images_touched, last_arrival, leave_finish, leave_in, next, part_in, part_waiting, parted, parted_image, past_end, pending_after, pending_touched, running_in, standing, step_in, team_of_split, touch_at, touch_found, touch_next, touch_place, touch_staged, untrapped, with_image, with_pending}
+use Rattle.caf_source.specs.Next.{after_did, after_reached, answered_image, answered_in, images_touched, last_arrival, leave_finish, leave_in, next, part_in, part_waiting, parted, parted_image, past_end, pending_after, pending_touched, running_in, standing, step_in, team_of_split, touch_at, touch_found, touch_next, touch_staged, untrapped, with_image, with_pending}
 use Rattle.caf_source.specs.Placed.{ArePlaceable, IsDoneAt, IsReachedAt}
 use Rattle.caf_source.specs.Stages.{Reached, reached, touch}
 use Rattle.caf_source.specs.State.{State, place_of}
@@ -62,13 +64,13 @@ none_refused outcome.Local ops is = absurd (none-some ops (sym is))
 none_refused (outcome.Begun op) ops is = absurd (none-some _ (sym is))
 none_refused (outcome.Ended ship notice) ops is = absurd (none-some _ (sym is))
 
-none_refusal : (t : Touched) (k : ℕ) (ops : List Operation) → pending_touched t k ops ≡ None → IsTrue (is_refusal t)
-none_refusal touched.Refused k ops is = refl
-none_refusal touched.Trapped k ops is = absurd (none-some ops (sym is))
-none_refusal touched.Passed k ops is = absurd (none-some _ (sym is))
-none_refusal (touched.Read values notice) k ops is = absurd (none-some _ (sym is))
-none_refusal (touched.Completed notice) k ops is = absurd (none-some _ (sym is))
-none_refusal (touched.Answered value) k ops is = absurd (none-some _ (sym is))
+none_refusal : (t : Touched) (name : OpName) (ops : List Operation) → pending_touched t name ops ≡ None → IsTrue (is_refusal t)
+none_refusal touched.Refused name ops is = refl
+none_refusal touched.Trapped name ops is = absurd (none-some ops (sym is))
+none_refusal touched.Passed name ops is = absurd (none-some _ (sym is))
+none_refusal (touched.Read values notice) name ops is = absurd (none-some _ (sym is))
+none_refusal (touched.Completed notice) name ops is = absurd (none-some _ (sym is))
+none_refusal (touched.Answered value) name ops is = absurd (none-some _ (sym is))
 
 -- the pending operations and the images after a choice make the state after it
 joined : (found : Option (List Operation)) (images new : List Image) (ops after : List Operation) (r : Stepped) → (found ≡ None → new ≡ images) → Makes found ops after r → Makes (with_pending new found) (of_images images ops) (of_images new after) r
@@ -84,7 +86,7 @@ step_same subs clear i t images new o ops done none =
 
 -- the Step of a task, where it was made at its image
 pub step_makes : (p : Program) (i t : ℕ) (images new : List Image) (ops after : List Operation) (clear : FenceClear) (o : Outcome) (r : Stepped)
-    → true ≡ is_some (running_in (slice_get images i)) → clear ≡ clear_of (of_images [] ops) i t → IsDoneAt (λ im. image_step p.subs clear i im t) i images new o → Makes (pending_after o ops) ops after r
+    → true ≡ is_some (running_in (slice_get images i)) → clear ≡ clear_of ops i t → IsDoneAt (λ im. image_step p.subs clear i im t) i images new o → Makes (pending_after o ops) ops after r
     → Makes (step_in p (of_images images ops) i t (running_in (slice_get images i))) (of_images images ops) (of_images new after) r
 step_makes p i t images new ops after clear o r runs clear_is done made =
     let s : State = of_images images ops in
@@ -110,18 +112,18 @@ images_same (touched.Completed notice) i task images h = refl
 images_same (touched.Answered value) i task images h = absurd (false≢true h)
 
 -- the stage of an operation, where it was performed at its image
-pub touch_makes : (p : Program) (k : ℕ) (op : Operation) (st : Stage) (i : ℕ) (images mid new : List Image) (ops after : List Operation) (t : Touched) (r : Stepped)
-    → true ≡ is_some (running_in (slice_get images i)) → IsReachedAt (λ im. touch p.subs i im op st) i images mid t → new ≡ images_touched t op.name.image op.task mid → Makes (pending_touched t k ops) ops after r
-    → Makes (touch_at p (of_images images ops) i k op st (running_in (slice_get images i))) (of_images images ops) (of_images new after) r
-touch_makes p k op st i images mid new ops after t r runs done answered made =
+pub touch_makes : (p : Program) (op : Operation) (st : Stage) (i : ℕ) (images mid new : List Image) (ops after : List Operation) (t : Touched) (r : Stepped)
+    → true ≡ is_some (running_in (slice_get images i)) → IsReachedAt (λ im. touch p.subs i im op st) i images mid t → new ≡ images_touched t op.name.image op.task mid → Makes (pending_touched t op.name ops) ops after r
+    → Makes (touch_at p (of_images images ops) i op st (running_in (slice_get images i))) (of_images images ops) (of_images new after) r
+touch_makes p op st i images mid new ops after t r runs done answered made =
     let s : State = of_images images ops in
-    let is : touch_at p s i k op st (running_in (slice_get images i)) ≡ with_pending new (pending_touched t k ops) =
-    ap (touch_at p s i k op st) (running_at images i done.before runs done.found)
-    ∙ ap (after_reached s i k op) done.done
-    ∙ ap (λ l. with_pending (images_touched t op.name.image op.task l) (pending_touched t k ops)) (sym done.set)
-    ∙ ap (λ l. with_pending l (pending_touched t k ops)) (sym answered) in
+    let is : touch_at p s i op st (running_in (slice_get images i)) ≡ with_pending new (pending_touched t op.name ops) =
+    ap (touch_at p s i op st) (running_at images i done.before runs done.found)
+    ∙ ap (after_reached s i op) done.done
+    ∙ ap (λ l. with_pending (images_touched t op.name.image op.task l) (pending_touched t op.name ops)) (sym done.set)
+    ∙ ap (λ l. with_pending l (pending_touched t op.name ops)) (sym answered) in
     subst (λ found. Makes found s (of_images new after) r) (sym is)
-    (joined (pending_touched t k ops) images new ops after r (λ none. let refusal = none_refusal t k ops none in answered ∙ images_same t op.name.image op.task mid refusal ∙ touch_same p.subs i op st images mid t done refusal) made)
+    (joined (pending_touched t op.name ops) images new ops after r (λ none. let refusal = none_refusal t op.name ops none in answered ∙ images_same t op.name.image op.task mid refusal ∙ touch_same p.subs i op st images mid t done refusal) made)
 
 -- an image that runs is there
 pub runs_within : (l : List Image) (i : ℕ) → true ≡ is_some (running_in (slice_get l i)) → i < length l
@@ -196,28 +198,19 @@ pub touched_at : (subs : List SubR) (i : ℕ) (l : List Image) (x y : Image) (op
 touched_at subs i l x y op st (Err e) within is all done = tt
 touched_at subs i l x y op st (Ok t) within is all done = placeable_set l i y all (reached_fits subs i x y op st t done (placeable_at l i x all (found_at l i x within is)))
 
--- the stage of the operation at a place
-pub staged : (p : Program) (s : State) (k : ℕ) (st : Stage) (op : Operation) → k < length s.pending → op ≡ get_or s.pending k op → touch_staged p s k st (slice_get s.pending k) ≡ touch_at p s (place_of op st) k op st (running_in (slice_get s.images (place_of op st)))
-staged p s k st op within is = ap (touch_staged p s k st) (found_at s.pending k op within is)
-
--- the first stage of the operation at the place of a name
-pub first_stage : (p : Program) (s : State) (k : ℕ) (st : Stage) (place : Option ℕ) (op : Operation) → Some k ≡ place → k < length s.pending → op ≡ get_or s.pending k op → Some st ≡ slice_get op.stages 0 → touch_place p s place ≡ touch_staged p s k st (slice_get s.pending k)
-first_stage p s k st place op at within is first =
-    ap (touch_place p s) (sym at) ∙ ap (touch_found p s k) here ∙ by_stages op.stages first ∙ sym (ap (touch_staged p s k st) here)
+-- the first stage of an operation that is found
+pub first_stage : (p : Program) (s : State) (st : Stage) (found : Option Operation) (op : Operation) → Some op ≡ found → Some st ≡ slice_get op.stages 0 → touch_found p s found ≡ touch_staged p s st op
+first_stage p s st found op is first = ap (touch_found p s) (sym is) ∙ by_stages op.stages first
   where
-    here : slice_get s.pending k ≡ Some op
-    here = found_at s.pending k op within is
-
-    by_stages : (stages : List Stage) → Some st ≡ slice_get stages 0 → touch_next p s k op stages ≡ touch_at p s (place_of op st) k op st (running_in (slice_get s.images (place_of op st)))
+    by_stages : (stages : List Stage) → Some st ≡ slice_get stages 0 → touch_next p s op stages ≡ touch_staged p s st op
     by_stages [] h = absurd (none-some st (sym h))
-    by_stages (x ∷ rest) h = ap (λ y. touch_at p s (place_of op y) k op y (running_in (slice_get s.images (place_of op y)))) (same_some x st (sym h))
+    by_stages (x ∷ rest) h = ap (λ y. touch_staged p s y op) (same_some x st (sym h))
 
 -- an operation without a stage left
-pub no_stage : (p : Program) (s : State) (k : ℕ) (place : Option ℕ) (op : Operation) → Some k ≡ place → k < length s.pending → op ≡ get_or s.pending k op → None ≡ slice_get op.stages 0 → touch_place p s place ≡ None
-no_stage p s k place op at within is none =
-    ap (touch_place p s) (sym at) ∙ ap (touch_found p s k) (found_at s.pending k op within is) ∙ by_stages op.stages none
+pub no_stage : (p : Program) (s : State) (found : Option Operation) (op : Operation) → Some op ≡ found → None ≡ slice_get op.stages 0 → touch_found p s found ≡ None
+no_stage p s found op is none = ap (touch_found p s) (sym is) ∙ by_stages op.stages none
   where
-    by_stages : (stages : List Stage) → None ≡ slice_get stages 0 → touch_next p s k op stages ≡ None
+    by_stages : (stages : List Stage) → None ≡ slice_get stages 0 → touch_next p s op stages ≡ None
     by_stages [] h = refl
     by_stages (x ∷ rest) h = absurd (none-some x h)
 
@@ -227,42 +220,36 @@ if_ok (Err e) P Q implies h = h
 
 -- the Step of a task as a call has made it
 pub step_led : (p : Program) (subs : List SubR) (i t : ℕ) (images new : List Image) (ops after : List Operation) (clear : FenceClear) (o : Outcome) (r : Result Stepped Memory)
-    → subs ≡ p.subs → true ≡ is_some (running_in (slice_get images i)) → clear ≡ clear_of (of_images [] ops) i t → IsDoneAt (λ im. image_step subs clear i im t) i images new o → IfOk r (λ x. Makes (pending_after o ops) ops after x)
+    → subs ≡ p.subs → true ≡ is_some (running_in (slice_get images i)) → clear ≡ clear_of ops i t → IsDoneAt (λ im. image_step subs clear i im t) i images new o → IfOk r (λ x. Makes (pending_after o ops) ops after x)
     → IfOk r (λ x. Makes (step_in p (of_images images ops) i t (running_in (slice_get images i))) (of_images images ops) (of_images new after) x)
 step_led p subs i t images new ops after clear o r same runs clear_is done made =
     let done_is : IsDoneAt (λ im. image_step p.subs clear i im t) i images new o = subst (λ l. IsDoneAt (λ im. image_step l clear i im t) i images new o) same done in
     if_ok r (λ x. Makes (pending_after o ops) ops after x) (λ x. Makes (step_in p (of_images images ops) i t (running_in (slice_get images i))) (of_images images ops) (of_images new after) x)
     (λ x made_x. step_makes p i t images new ops after clear o x runs clear_is done_is made_x) made
 
--- the stage of the operation at a place as a call has made it
-pub touch_led : (p : Program) (subs : List SubR) (k : ℕ) (op : Operation) (st : Stage) (i : ℕ) (images mid new : List Image) (ops after : List Operation) (t : Touched) (r : Result Stepped Memory)
-    → subs ≡ p.subs → k < length ops → op ≡ get_or ops k op → i ≡ place_of op st → true ≡ is_some (running_in (slice_get images i)) → IsReachedAt (λ im. touch subs i im op st) i images mid t
-    → new ≡ images_touched t op.name.image op.task mid → IfOk r (λ x. Makes (pending_touched t k ops) ops after x)
-    → IfOk r (λ x. Makes (touch_staged p (of_images images ops) k st (slice_get ops k)) (of_images images ops) (of_images new after) x)
-touch_led p subs k op st i images mid new ops after t r same within is at runs done answered made =
+-- the stage of an operation as a call has made it
+pub touch_led : (p : Program) (subs : List SubR) (op : Operation) (st : Stage) (found : Option Operation) (i : ℕ) (images mid new : List Image) (ops after : List Operation) (t : Touched) (r : Result Stepped Memory)
+    → subs ≡ p.subs → Some op ≡ found → Some st ≡ slice_get op.stages 0 → i ≡ place_of op st → true ≡ is_some (running_in (slice_get images i)) → IsReachedAt (λ im. touch subs i im op st) i images mid t
+    → new ≡ images_touched t op.name.image op.task mid → IfOk r (λ x. Makes (pending_touched t op.name ops) ops after x)
+    → IfOk r (λ x. Makes (touch_found p (of_images images ops) found) (of_images images ops) (of_images new after) x)
+touch_led p subs op st found i images mid new ops after t r same is first at runs done answered made =
     let s : State = of_images images ops in
     let done_is : IsReachedAt (λ im. touch p.subs i im op st) i images mid t = subst (λ l. IsReachedAt (λ im. touch l i im op st) i images mid t) same done in
-    let found : touch_staged p s k st (slice_get ops k) ≡ touch_at p s i k op st (running_in (slice_get images i)) =
-    staged p s k st op within is ∙ ap (λ j. touch_at p s j k op st (running_in (slice_get images j))) (sym at) in
-    if_ok r (λ x. Makes (pending_touched t k ops) ops after x) (λ x. Makes (touch_staged p s k st (slice_get ops k)) s (of_images new after) x)
-    (λ x made_x. subst (λ f. Makes f s (of_images new after) x) (sym found) (touch_makes p k op st i images mid new ops after t x runs done_is answered made_x)) made
+    let here : touch_found p s found ≡ touch_at p s i op st (running_in (slice_get images i)) =
+    first_stage p s st found op is first ∙ ap (λ j. touch_at p s j op st (running_in (slice_get images j))) (sym at) in
+    if_ok r (λ x. Makes (pending_touched t op.name ops) ops after x) (λ x. Makes (touch_found p s found) s (of_images new after) x)
+    (λ x made_x. subst (λ f. Makes f s (of_images new after) x) (sym here) (touch_makes p op st i images mid new ops after t x runs done_is answered made_x)) made
 
 -- a stage at an image that doesn't run
-pub touch_stops : (p : Program) (k : ℕ) (op : Operation) (st : Stage) (i : ℕ) (images : List Image) (ops : List Operation) → k < length ops → op ≡ get_or ops k op → i ≡ place_of op st
-    → false ≡ is_some (running_in (slice_get images i)) → touch_staged p (of_images images ops) k st (slice_get ops k) ≡ None
-touch_stops p k op st i images ops within is at stops =
+pub touch_stops : (p : Program) (op : Operation) (st : Stage) (found : Option Operation) (i : ℕ) (images : List Image) (ops : List Operation) → Some op ≡ found → Some st ≡ slice_get op.stages 0 → i ≡ place_of op st
+    → false ≡ is_some (running_in (slice_get images i)) → touch_found p (of_images images ops) found ≡ None
+touch_stops p op st found i images ops is first at stops =
     let s : State = of_images images ops in
-    staged p s k st op within is ∙ ap (λ j. touch_at p s j k op st (running_in (slice_get images j))) (sym at) ∙ ap (touch_at p s i k op st) (none_is (running_in (slice_get images i)) stops)
+    first_stage p s st found op is first ∙ ap (λ j. touch_at p s j op st (running_in (slice_get images j))) (sym at) ∙ ap (touch_at p s i op st) (none_is (running_in (slice_get images i)) stops)
   where
     none_is : (o : Option Image) → false ≡ is_some o → o ≡ None
     none_is None h = refl
     none_is (Some x) h = absurd (false≢true h)
-
--- the next stage of the operation of a name as a call has made it
-pub next_led : (p : Program) (s t : State) (k : ℕ) (st : Stage) (place : Option ℕ) (op : Operation) (r : Result Stepped Memory) → Some k ≡ place → k < length s.pending → op ≡ get_or s.pending k op → Some st ≡ slice_get op.stages 0
-    → IfOk r (λ x. Makes (touch_staged p s k st (slice_get s.pending k)) s t x) → IfOk r (λ x. Makes (touch_place p s place) s t x)
-next_led p s t k st place op r at within is first made =
-    subst (λ found. IfOk r (λ x. Makes found s t x)) (sym (first_stage p s k st place op at within is first)) made
 
 answered_fits : (i t : ℕ) (value : Option ℤ) (images : List Image) (found : Option Image) → slice_get images i ≡ found → ArePlaceable images → ArePlaceable (answered_in i t value images found)
 answered_fits i t value images None is all = all

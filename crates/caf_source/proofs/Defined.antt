@@ -8,6 +8,7 @@ use Rattle.caf_base.specs.declared.effect.Need.TheVariants as need
 use Rattle.caf_base.specs.declared.fence.FenceClear.{FenceClear}
 use Rattle.caf_base.specs.declared.operation.CopyOrder.{CopyOrder}
 use Rattle.caf_base.specs.declared.operation.EventAt.{EventAt}
+use Rattle.caf_base.specs.declared.operation.OpName.{OpName}
 use Rattle.caf_base.specs.declared.operation.OpSpec.{OpSpec}
 use Rattle.caf_base.specs.declared.operation.OpSpec.TheVariants as spec
 use Rattle.caf_base.specs.declared.operation.Section.{Section}
@@ -23,7 +24,10 @@ use Rattle.caf_base.specs.Groups.{Offer}
 use Rattle.caf_base.specs.ImageMemory.{ImageMemory}
 use Rattle.caf_base.specs.Orders.{with_copointer}
 use Rattle.caf_base.specs.Places.{posts_at, with_posts, written}
+use Rattle.caf_history.specs.declared.arrival.Arrival.{Arrival}
 use Rattle.caf_memory.specs.Bounds.{posts_of}
+use Rattle.caf_pending.specs.declared.operation.Operation.{Operation}
+use Rattle.caf_pending.specs.Pending.{clear_of}
 use Rattle.caf_program.specs.declared.expr.ExprR.{ExprR}
 use Rattle.caf_program.specs.declared.parts.OwnEventR.{OwnEventR}
 use Rattle.caf_program.specs.declared.parts.VariableR.{VariableR}
@@ -40,13 +44,11 @@ use Rattle.caf_source.specs.declared.outcome.Outcome.{Outcome}
 use Rattle.caf_source.specs.declared.outcome.Outcome.TheVariants as outcome
 use Rattle.caf_source.specs.declared.outcome.Touched.{Touched}
 use Rattle.caf_source.specs.declared.outcome.Touched.TheVariants as touched
-use Rattle.caf_source.specs.declared.state.Arrival.{Arrival}
 use Rattle.caf_source.specs.declared.state.Image.{Image}
 use Rattle.caf_source.specs.declared.state.Live.{Live}
-use Rattle.caf_source.specs.declared.state.Operation.{Operation}
 use Rattle.caf_source.specs.Effects.{ends, image_step, live_did, live_step, lived, place_of_task, step_at_place, step_shipped, stopped}
-use Rattle.caf_source.specs.Ending.{can_copy, can_part_in, can_part_waiting, can_start, can_step_in, can_step_live, can_touch_at, can_touch_found, can_touch_next, can_touch_spec, has_arrived, has_no_caller, has_post_in, have_arrived, is_next_still, is_statement_still, is_task_still, is_waiting_still, lacks_post, live_at, live_in, operation_in}
-use Rattle.caf_source.specs.Next.{clear_of, joined, last_arrival, leave_finish, leave_in, may_leave, offer_in, offers_of, part_in, part_waiting, parted, past_end, pending_after, pending_touched, running_in, standing, step_in, team_by, team_of_split, touch_at, touch_found, touch_next, touch_place, with_image, with_pending}
+use Rattle.caf_source.specs.Ending.{can_copy, can_part_in, can_part_waiting, can_start, can_step_in, can_step_live, can_touch_at, can_touch_found, can_touch_next, can_touch_spec, has_arrived, has_no_caller, has_post_in, have_arrived, is_next_still, is_statement_still, is_task_still, is_waiting_still, lacks_post, live_at, live_in}
+use Rattle.caf_source.specs.Next.{joined, last_arrival, leave_finish, leave_in, may_leave, offer_in, offers_of, part_in, part_waiting, parted, past_end, pending_after, pending_touched, running_in, standing, step_in, team_by, team_of_split, touch_at, touch_found, touch_next, with_image, with_pending}
 use Rattle.caf_source.specs.Stages.{reached, reads_source, shipped_live, source_read, start_copy, starts, stored_by, takes_post, touch, touch_copy, touch_notice, touch_read, touch_ship, touch_spec, touch_write, trapped}
 use Rattle.caf_source.specs.State.{State, place_of}
 use Rattle.caf_source.specs.Stepping.{can_leave_in, may_leave_end}
@@ -213,30 +215,30 @@ after_some images outcome.Local ops = refl
 after_some images (outcome.Begun op) ops = refl
 after_some images (outcome.Ended ship notice) ops = refl
 
-shipped_refused : (law : ReadsAreHeld) (p : Program) (s : State) (i t k : ℕ) (im : Image) (found : Option Live) → not (is_refused (step_shipped p.subs (clear_of s i t) i im k found).outcome) ≡ can_step_live s i t im found
+shipped_refused : (law : ReadsAreHeld) (p : Program) (s : State) (i t k : ℕ) (im : Image) (found : Option Live) → not (is_refused (step_shipped p.subs (clear_of s.pending i t) i im k found).outcome) ≡ can_step_live s i t im found
 shipped_refused law p s i t k im None = refl
-shipped_refused law p s i t k im (Some l) = ap not (live_refused law p.subs (clear_of s i t) i im l)
+shipped_refused law p s i t k im (Some l) = ap not (live_refused law p.subs (clear_of s.pending i t) i im l)
 
-place_refused : (law : ReadsAreHeld) (p : Program) (s : State) (i t : ℕ) (im : Image) (place : Option ℕ) → not (is_refused (step_at_place p.subs (clear_of s i t) i im place).outcome) ≡ can_step_live s i t im (live_in im.shipped place)
+place_refused : (law : ReadsAreHeld) (p : Program) (s : State) (i t : ℕ) (im : Image) (place : Option ℕ) → not (is_refused (step_at_place p.subs (clear_of s.pending i t) i im place).outcome) ≡ can_step_live s i t im (live_in im.shipped place)
 place_refused law p s i t im None = refl
 place_refused law p s i t im (Some k) = shipped_refused law p s i t k im (slice_get im.shipped k)
 
-image_refused : (law : ReadsAreHeld) (p : Program) (s : State) (i t : ℕ) (im : Image) → not (is_refused (image_step p.subs (clear_of s i t) i im t).outcome) ≡ can_step_live s i t im (live_at im t)
-image_refused law p s i zero im = ap not (live_refused law p.subs (clear_of s i 0) i im im.main)
+image_refused : (law : ReadsAreHeld) (p : Program) (s : State) (i t : ℕ) (im : Image) → not (is_refused (image_step p.subs (clear_of s.pending i t) i im t).outcome) ≡ can_step_live s i t im (live_at im t)
+image_refused law p s i zero im = ap not (live_refused law p.subs (clear_of s.pending i 0) i im im.main)
 image_refused law p s i (suc n) im = place_refused law p s i (suc n) im (place_of_task (suc n) im.shipped)
 
 -- a Step is defined exactly where the test says so
 pub step_defined : (law : ReadsAreHeld) (p : Program) (s : State) (i t : ℕ) (r : Option Image) → is_some (step_in p s i t r) ≡ can_step_in s i t r
 step_defined law p s i t None = refl
-step_defined law p s i t (Some im) = after_some _ (image_step p.subs (clear_of s i t) i im t).outcome s.pending ∙ image_refused law p s i t im
+step_defined law p s i t (Some im) = after_some _ (image_step p.subs (clear_of s.pending i t) i im t).outcome s.pending ∙ image_refused law p s i t im
 
-reached_some : (images : List Image) (t : Touched) (k : ℕ) (ops : List Operation) → is_some (with_pending images (pending_touched t k ops)) ≡ not (is_refusal t)
-reached_some images touched.Refused k ops = refl
-reached_some images touched.Trapped k ops = refl
-reached_some images touched.Passed k ops = refl
-reached_some images (touched.Read values notice) k ops = refl
-reached_some images (touched.Completed notice) k ops = refl
-reached_some images (touched.Answered value) k ops = refl
+reached_some : (images : List Image) (t : Touched) (name : OpName) (ops : List Operation) → is_some (with_pending images (pending_touched t name ops)) ≡ not (is_refusal t)
+reached_some images touched.Refused name ops = refl
+reached_some images touched.Trapped name ops = refl
+reached_some images touched.Passed name ops = refl
+reached_some images (touched.Read values notice) name ops = refl
+reached_some images (touched.Completed notice) name ops = refl
+reached_some images (touched.Answered value) name ops = refl
 
 ship_some : (im : Image) (op : Operation) (f : Option SubR) (args : List ℤ) (event : Option EventAt) → not (is_refusal (touch_ship im op f args event).touched) ≡ is_some f
 ship_some im op None args event = refl
@@ -302,22 +304,18 @@ spec_some subs i im op (spec.Copy o) st = copy_some i im op o st
 spec_some subs i im op (spec.Read c) st = answer_some im (element_of im.memory.objects im.memory.cells c.object c.from)
 spec_some subs i im op (spec.Write c z) st = write_some im (written im.memory c.object c.from z)
 
-touch_some : (p : Program) (s : State) (i k : ℕ) (op : Operation) (st : Stage) (r : Option Image) → is_some (touch_at p s i k op st r) ≡ can_touch_at p.subs op st r
-touch_some p s i k op st None = refl
-touch_some p s i k op st (Some im) = reached_some _ (touch p.subs i im op st).touched k s.pending ∙ spec_some p.subs i im op op.spec st
+touch_some : (p : Program) (s : State) (i : ℕ) (op : Operation) (st : Stage) (r : Option Image) → is_some (touch_at p s i op st r) ≡ can_touch_at p.subs op st r
+touch_some p s i op st None = refl
+touch_some p s i op st (Some im) = reached_some _ (touch p.subs i im op st).touched op.name s.pending ∙ spec_some p.subs i im op op.spec st
 
-next_some : (p : Program) (s : State) (k : ℕ) (op : Operation) (stages : List Stage) → is_some (touch_next p s k op stages) ≡ can_touch_next p.subs s op stages
-next_some p s k op [] = refl
-next_some p s k op (st ∷ rest) = touch_some p s (place_of op st) k op st (running_in (slice_get s.images (place_of op st)))
-
-found_some : (p : Program) (s : State) (k : ℕ) (found : Option Operation) → is_some (touch_found p s k found) ≡ can_touch_found p.subs s found
-found_some p s k None = refl
-found_some p s k (Some op) = next_some p s k op op.stages
+next_some : (p : Program) (s : State) (op : Operation) (stages : List Stage) → is_some (touch_next p s op stages) ≡ can_touch_next p.subs s op stages
+next_some p s op [] = refl
+next_some p s op (st ∷ rest) = touch_some p s (place_of op st) op st (running_in (slice_get s.images (place_of op st)))
 
 -- a Touch is defined exactly where the test says so
-pub touch_defined : (p : Program) (s : State) (place : Option ℕ) → is_some (touch_place p s place) ≡ can_touch_found p.subs s (operation_in s.pending place)
+pub touch_defined : (p : Program) (s : State) (found : Option Operation) → is_some (touch_found p s found) ≡ can_touch_found p.subs s found
 touch_defined p s None = refl
-touch_defined p s (Some k) = found_some p s k (slice_get s.pending k)
+touch_defined p s (Some op) = next_some p s op op.stages
 
 joined_some : (o : Option Offer) (rest : Option (List Offer)) → is_some (joined o rest) ≡ (is_some o && is_some rest)
 joined_some None rest = refl

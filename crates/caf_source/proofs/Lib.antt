@@ -13,6 +13,7 @@ pub mod Placing
 pub mod AtImage
 pub mod Begin
 pub mod Below
+pub mod Passing
 pub mod Offers
 pub mod Defined
 pub mod Standing

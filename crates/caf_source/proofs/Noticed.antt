@@ -6,9 +6,9 @@ use Rattle.caf_base.specs.declared.team.FinishRef.{FinishRef}
 use Rattle.caf_base.specs.declared.trap.Trap.{Trap}
 use Rattle.caf_base.specs.declared.trap.Trap.TheVariants as trap
 use Rattle.caf_base.specs.ImageMemory.{ImageMemory}
+use Rattle.caf_pending.specs.declared.operation.Operation.{Operation}
 use Rattle.caf_source.specs.Begun.{Noticed, is_spent, notice_of, operation_of, with_one_more}
 use Rattle.caf_source.specs.declared.state.Image.{Image}
-use Rattle.caf_source.specs.declared.state.Operation.{Operation}
 
 abbrev with_memory : ImageMemory → Result Noticed Trap → Result Noticed Trap
 with_memory m (Err t) = Err t

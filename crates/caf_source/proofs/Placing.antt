@@ -18,13 +18,13 @@ use Rattle.caf_base.specs.ImageMemory.{ImageMemory}
 use Rattle.caf_base.specs.Places.{bind, set_element, with_posts, with_posts_in, written, written_in}
 use Rattle.caf_base.specs.Sections.{section_values, with_section, with_section_in}
 use Rattle.caf_memory.specs.Bounds.{posts_of}
+use Rattle.caf_pending.specs.declared.operation.Operation.{Operation}
 use Rattle.caf_program.specs.declared.program.SubR.{SubR}
 use Rattle.caf_source.specs.Begun.{Noticed, notice_of}
 use Rattle.caf_source.specs.declared.outcome.Touched.{Touched}
 use Rattle.caf_source.specs.declared.outcome.Touched.TheVariants as touched
 use Rattle.caf_source.specs.declared.state.Image.{Image}
 use Rattle.caf_source.specs.declared.state.Live.{Live}
-use Rattle.caf_source.specs.declared.state.Operation.{Operation}
 use Rattle.caf_source.specs.Stages.{Reached, memory_stored, reached, reads_source, shipped_live, source_read, start_copy, starts, stored_by, takes_post, tested_in, touch, touch_copy, touch_notice, touch_read, touch_ship, touch_spec, touch_write, trapped}
 use Rattle.caf_source.proofs.Noticed.{notice_memory}
 use Rattle.caf_treestep.specs.Placeable.{IsPlaceable}

@@ -17,6 +17,7 @@ use Rattle.caf_base.specs.Element.{element_of}
 use Rattle.caf_base.specs.ImageMemory.{ImageMemory}
 use Rattle.caf_base.specs.Places.{with_posts, written}
 use Rattle.caf_memory.specs.Bounds.{posts_of}
+use Rattle.caf_pending.specs.declared.operation.Operation.{Operation}
 use Rattle.caf_program.specs.declared.program.SubR.{SubR}
 use Rattle.caf_source.specs.Begun.{Noticed, is_outside, is_spent, notice_of, operation_of, with_one_more}
 use Rattle.caf_source.specs.declared.outcome.Outcome.{Outcome}
@@ -25,7 +26,6 @@ use Rattle.caf_source.specs.declared.outcome.Touched.{Touched}
 use Rattle.caf_source.specs.declared.outcome.Touched.TheVariants as touched
 use Rattle.caf_source.specs.declared.state.Image.{Image}
 use Rattle.caf_source.specs.declared.state.Live.{Live}
-use Rattle.caf_source.specs.declared.state.Operation.{Operation}
 use Rattle.caf_source.specs.Effects.{Did, Lived, ends, image_step, kept_at, live_did, live_step, lived, place_of_task, step_at_place, step_shipped, stopped}
 use Rattle.caf_source.specs.Stages.{Reached, reached, reads_source, shipped_live, source_read, start_copy, starts, stored_by, takes_post, touch, touch_copy, touch_notice, touch_read, touch_ship, touch_spec, touch_write, trapped}
 use Rattle.caf_treestep.specs.Step.{step}

@@ -2,7 +2,7 @@
 use Rattle.std.proofs.lemmas.Bool.{eqb-true, false≢true}
 use Rattle.std.proofs.lemmas.List.Quantifiers.{position-Some}
 use Rattle.std.proofs.lemmas.Option.{get_or_from_slice_get, none-some}
-use Rattle.std.proofs.Common.{◌≡◌, ℕ, zero, suc, ◌<◌, ◌++◌, Bool, true, false, ◌||◌, List, [], ◌∷◌, Option, Some, None, Result, Ok, Err, IfOk, ap, refl, sym, subst, ◌∙◌, is_some, slice_get, nat_eq, length, arith, if◌then◌else◌, inl, inr, ◌⊎◌}
+use Rattle.std.proofs.Common.{◌≡◌, ℕ, zero, suc, ◌<◌, ◌++◌, Bool, true, false, ◌||◌, List, [], ◌∷◌, Option, Some, None, Result, Ok, Err, IfOk, ap, find, refl, sym, subst, ◌∙◌, is_some, slice_get, nat_eq, length, arith, if◌then◌else◌, inl, inr, ◌⊎◌}
 use Rattle.std.specs.List.{list_any, position}
 use Rattle.caf_base.specs.declared.operation.OpName.{OpName}
 use Rattle.caf_base.specs.declared.summary.Ending.{Ending}
@@ -10,16 +10,17 @@ use Rattle.caf_base.specs.declared.summary.Ending.TheVariants as ending
 use Rattle.caf_base.specs.Operations.{same_op}
 use Rattle.caf_base.specs.Places.{below}
 use Rattle.caf_base.specs.declared.memory.Memory.{Memory}
+use Rattle.caf_pending.specs.declared.operation.Operation.{Operation}
+use Rattle.caf_pending.specs.Pending.{is_named, operation_named}
 use Rattle.caf_program.specs.declared.program.Program.{Program}
 use Rattle.caf_program.specs.declared.program.SubR.{SubR}
 use Rattle.caf_source.specs.declared.choice.Choice.{Choice}
 use Rattle.caf_source.specs.declared.choice.Choice.TheVariants as choice
 use Rattle.caf_source.specs.declared.state.Image.{Image}
 use Rattle.caf_source.specs.declared.state.Live.{Live}
-use Rattle.caf_source.specs.declared.state.Operation.{Operation}
 use Rattle.caf_source.specs.Effects.{place_of_task}
-use Rattle.caf_source.specs.Ending.{can_go, can_go_at, can_leave, can_part, can_part_in, can_step, can_step_in, can_step_live, can_step_shipped, can_touch, can_touch_found, ending_of, live_in, operation_in}
-use Rattle.caf_source.specs.Next.{next, place_of_op, running_in, untrapped}
+use Rattle.caf_source.specs.Ending.{can_go, can_go_at, can_leave, can_part, can_part_in, can_step, can_step_in, can_step_live, can_step_shipped, can_touch, can_touch_found, ending_of, live_in}
+use Rattle.caf_source.specs.Next.{next, running_in, untrapped}
 use Rattle.caf_source.specs.Run.{Stands, has_trapped, is_done}
 use Rattle.caf_source.specs.State.{State}
 use Rattle.caf_source.specs.Stepping.{can_leave_in}
@@ -112,7 +113,7 @@ defined p s (choice.Leave i) = can_leave s i
 
 is_defined : (law : ReadsAreHeld) (p : Program) (s : State) (c : Choice) → is_some (next p s c) ≡ defined p s c
 is_defined law p s (choice.Step i t) = step_defined law p s i t (running_in (slice_get s.images i))
-is_defined law p s (choice.Touch name) = touch_defined p s (place_of_op name s.pending)
+is_defined law p s (choice.Touch name) = touch_defined p s (operation_named name s.pending)
 is_defined law p s (choice.Part i) = part_defined s i (running_in (slice_get s.images i))
 is_defined law p s (choice.Leave i) = leave_defined s i (running_in (slice_get s.images i))
 
@@ -162,22 +163,27 @@ leave_still s i (Some im) is none =
     let rest = (or_false (can_step s i 0) _ all).1 in
     (or_false (can_part s i) (can_leave s i) (or_false (can_step_shipped s i (slice_get s.images i)) _ rest).1).1
 
-touch_still : (p : Program) (s : State) (name : OpName) (place : Option ℕ) → place_of_op name s.pending ≡ place → list_any (λ (op : Operation). can_touch p.subs s op.name) s.pending ≡ false → can_touch_found p.subs s (operation_in s.pending place) ≡ false
-touch_still p s name None at none = refl
-touch_still p s name (Some k) at none = go (slice_get s.pending k) refl
+-- what is found passes the test by which it was looked for, and any other that all pass
+found_in : {A : Type 0} (test p : A → Bool) (xs : List A) (x : A) → find test xs ≡ Some x → list_any p xs ≡ false → (test x ≡ true) × (p x ≡ false)
+found_in test p [] x is none = absurd (none-some x is)
+found_in test p (y ∷ xs) x is none = go (test y) refl is (λ there. found_in test p xs x there (or_false (p y) (list_any p xs) none).1)
   where
-    go : (found : Option Operation) → slice_get s.pending k ≡ found → can_touch_found p.subs s found ≡ false
-    go None is = refl
-    go (Some op) is =
-        let same : op.name ≡ name = name_is op.name name (position_passes (λ (o : Operation). same_op o.name name) s.pending k op at is) in
-        let still : can_touch p.subs s op.name ≡ false = none_at (λ (o : Operation). can_touch p.subs s o.name) s.pending k op none is in
-        let stays : can_touch p.subs s name ≡ false = subst (λ n. can_touch p.subs s n ≡ false) same still in
-        sym (ap (λ place. can_touch_found p.subs s (operation_in s.pending place)) at ∙ ap (can_touch_found p.subs s) is) ∙ stays
+    go : (b : Bool) → test y ≡ b → (if b then Some y else find test xs) ≡ Some x → (find test xs ≡ Some x → (test x ≡ true) × (p x ≡ false)) → (test x ≡ true) × (p x ≡ false)
+    go true passes here rest = let same : y ≡ x = same_some y x here in (subst (λ z. test z ≡ true) same passes, subst (λ z. p z ≡ false) same (or_false (p y) (list_any p xs) none).0)
+    go false fails there rest = rest there
+
+touch_still : (p : Program) (s : State) (name : OpName) (found : Option Operation) → operation_named name s.pending ≡ found → list_any (λ (op : Operation). can_touch p.subs s op.name) s.pending ≡ false → can_touch_found p.subs s found ≡ false
+touch_still p s name None is none = refl
+touch_still p s name (Some op) is none =
+    let both = found_in (is_named name) (λ (o : Operation). can_touch p.subs s o.name) s.pending op is none in
+    let same : op.name ≡ name = name_is op.name name both.0 in
+    let stays : can_touch p.subs s name ≡ false = subst (λ n. can_touch p.subs s n ≡ false) same both.1 in
+    sym (ap (can_touch_found p.subs s) is) ∙ stays
 
 -- where no test passes, no choice is defined
 still : (p : Program) (s : State) → can_go p.subs s ≡ false → (c : Choice) → defined p s c ≡ false
 still p s none (choice.Step i t) = step_still s i t (slice_get s.images i) refl (or_false (list_any (can_go_at s) (below (length s.images))) _ none).0
-still p s none (choice.Touch name) = touch_still p s name (place_of_op name s.pending) refl (or_false (list_any (can_go_at s) (below (length s.images))) _ none).1
+still p s none (choice.Touch name) = touch_still p s name (operation_named name s.pending) refl (or_false (list_any (can_go_at s) (below (length s.images))) _ none).1
 still p s none (choice.Part i) = part_still s i (slice_get s.images i) refl (or_false (list_any (can_go_at s) (below (length s.images))) _ none).0
 still p s none (choice.Leave i) = leave_still s i (slice_get s.images i) refl (or_false (list_any (can_go_at s) (below (length s.images))) _ none).0
 

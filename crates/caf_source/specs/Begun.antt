@@ -7,8 +7,8 @@ use Rattle.caf_base.specs.declared.team.FinishRef.{FinishRef}
 use Rattle.caf_base.specs.declared.trap.Trap.{Trap}
 use Rattle.caf_base.specs.declared.trap.Trap.TheVariants as trap
 use Rattle.caf_base.specs.Operations.{are_inside, images_named, is_counted, stages_of}
+use Rattle.caf_pending.specs.declared.operation.Operation.{Operation}
 use Rattle.caf_source.specs.declared.state.Image.{Image}
-use Rattle.caf_source.specs.declared.state.Operation.{Operation}
 
 -- whether the image has no operation number left
 abbrev pub is_spent : Image → Bool

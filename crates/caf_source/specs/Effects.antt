@@ -1,21 +1,21 @@
 -- What a Step does at its image, by its effect.
-use Rattle.std.specs.Prelude.{ℕ, zero, suc, not, ◌+◌, ◌&&◌, List, [], ◌∷◌, ◌++◌, count_by, nat_eq, Option, Some, None, Result, Ok, Err, ℤ, slice_get, slice_set, if◌then◌else◌}
+use Rattle.std.specs.Prelude.{ℕ, zero, suc, ◌+◌, List, [], ◌∷◌, ◌++◌, nat_eq, Option, Some, None, Result, Ok, Err, ℤ, slice_get, slice_set, if◌then◌else◌}
 use Rattle.std.specs.List.{position, remove}
 use Rattle.caf_base.specs.After.{After}
 use Rattle.caf_base.specs.declared.effect.Effect.{Effect}
 use Rattle.caf_base.specs.declared.effect.Effect.TheVariants as effect
 use Rattle.caf_base.specs.declared.fence.FenceClear.{FenceClear}
 use Rattle.caf_base.specs.declared.operation.OpSpec.{OpSpec}
-use Rattle.caf_base.specs.declared.team.FinishRef.{FinishRef}
 use Rattle.caf_base.specs.declared.team.Team.{Team}
 use Rattle.caf_base.specs.declared.trap.Trap.{Trap}
 use Rattle.caf_base.specs.declared.trap.Trap.TheVariants as trap
-use Rattle.caf_base.specs.FinishRef.{same_path}
+use Rattle.caf_history.specs.declared.arrival.Arrival.{Arrival}
+use Rattle.caf_history.specs.Finishes.{count_finishes}
+use Rattle.caf_history.specs.Splits.{count_splits}
 use Rattle.caf_program.specs.declared.program.SubR.{SubR}
 use Rattle.caf_source.specs.Begun.{Noticed, is_outside, is_spent, notice_of, operation_of, with_one_more}
 use Rattle.caf_source.specs.declared.outcome.Outcome.{Outcome}
 use Rattle.caf_source.specs.declared.outcome.Outcome.TheVariants as outcome
-use Rattle.caf_source.specs.declared.state.Arrival.{Arrival}
 use Rattle.caf_source.specs.declared.state.Image.{Image}
 use Rattle.caf_source.specs.declared.state.Live.{Live}
 use Rattle.caf_treestep.specs.declared.task.Task.{Task}
@@ -34,17 +34,13 @@ lived im l o = record { image = im; live = l; outcome = o }
 abbrev pub stopped : Image → Trap → Image
 stopped im t = record im { trap = Some t }
 
--- how many of these finishes are of a team, the program's apart
-abbrev pub count_finishes : Team → List FinishRef → ℕ
-count_finishes team fs = count_by (λ (f : FinishRef). same_path f.team.path team.path && not (nat_eq f.number 0)) fs
-
 -- the number of the next finish of a team at an image, from 1: it follows those that were left and those entered
 abbrev pub next_finish : Image → Live → Team → ℕ
 next_finish im l team = suc (count_finishes team im.left + count_finishes team l.finishes)
 
 -- the number of the next split of a team at an image, from 1
 abbrev pub next_split : Image → Team → ℕ
-next_split im team = suc (count_by (λ (a : Arrival). same_path a.team.path team.path) im.arrived)
+next_split im team = suc (count_splits team im.arrived)
 
 -- the task in the next finish of a team
 abbrev pub entered : Image → Live → Team → Live

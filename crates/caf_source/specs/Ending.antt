@@ -15,19 +15,20 @@ use Rattle.caf_base.specs.declared.trap.Trap.{Trap}
 use Rattle.caf_base.specs.Fence.{passes}
 use Rattle.caf_base.specs.ImageMemory.{ImageMemory}
 use Rattle.caf_base.specs.Places.{below, posts_at}
+use Rattle.caf_history.specs.declared.arrival.Arrival.{Arrival}
 use Rattle.caf_memory.specs.Bounds.{posts_of}
+use Rattle.caf_pending.specs.declared.operation.Operation.{Operation}
+use Rattle.caf_pending.specs.Pending.{clear_of, operation_named}
 use Rattle.caf_program.specs.declared.parts.OwnEventR.{OwnEventR}
 use Rattle.caf_program.specs.declared.program.SubR.{SubR}
 use Rattle.caf_program.specs.declared.stmt.StmtR.{StmtR}
 use Rattle.caf_program.specs.declared.stmt.StmtR.TheOpen.{StmtR-F}
 use Rattle.caf_program.specs.declared.stmt.StmtR.TheViews.{out-StmtR}
 use Rattle.caf_program.specs.Value.{count}
-use Rattle.caf_source.specs.declared.state.Arrival.{Arrival}
 use Rattle.caf_source.specs.declared.state.Image.{Image}
 use Rattle.caf_source.specs.declared.state.Live.{Live}
-use Rattle.caf_source.specs.declared.state.Operation.{Operation}
 use Rattle.caf_source.specs.Effects.{place_of_task}
-use Rattle.caf_source.specs.Next.{clear_of, last_arrival, offer_in, place_of_op, running_in}
+use Rattle.caf_source.specs.Next.{last_arrival, offer_in, running_in}
 use Rattle.caf_source.specs.Run.{has_trapped, is_done}
 use Rattle.caf_source.specs.State.{State, place_of}
 use Rattle.caf_source.specs.Stepping.{can_leave_in}
@@ -85,7 +86,7 @@ live_at im (suc n) = live_in im.shipped (place_of_task (suc n) im.shipped)
 
 abbrev pub can_step_live : State → ℕ → ℕ → Image → Option Live → Bool
 can_step_live s i t im None = false
-can_step_live s i t im (Some l) = not (is_task_still (clear_of s i t) l.task im.memory)
+can_step_live s i t im (Some l) = not (is_task_still (clear_of s.pending i t) l.task im.memory)
 
 abbrev pub can_step_in : State → ℕ → ℕ → Option Image → Bool
 can_step_in s i t None = false
@@ -130,13 +131,13 @@ abbrev pub can_touch_found : List SubR → State → Option Operation → Bool
 can_touch_found subs s None = false
 can_touch_found subs s (Some op) = can_touch_next subs s op op.stages
 
-abbrev pub operation_in : List Operation → Option ℕ → Option Operation
-operation_in ops None = None
-operation_in ops (Some k) = slice_get ops k
-
 -- whether the next stage of the pending operation of a name is defined
 abbrev pub can_touch : List SubR → State → OpName → Bool
-can_touch subs s name = can_touch_found subs s (operation_in s.pending (place_of_op name s.pending))
+can_touch subs s name = can_touch_found subs s (operation_named name s.pending)
+
+abbrev pub can_touch_named : List SubR → State → Option Operation → Bool
+can_touch_named subs s None = false
+can_touch_named subs s (Some op) = can_touch subs s op.name
 
 abbrev pub has_arrived : List Image → Arrival → ℕ → Bool
 has_arrived images a member = is_some (offer_in a.team a.number member (slice_get images member))

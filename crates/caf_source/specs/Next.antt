@@ -1,20 +1,19 @@
 -- The next state of the source machine after a choice, or none where the choice isn't defined.
-use Rattle.std.specs.Prelude.{ℕ, zero, suc, ◌-◌, Bool, true, false, not, ◌&&◌, ◌||◌, List, [], ◌∷◌, ◌++◌, nat_eq, length, find, Option, Some, None, ℤ, slice_get, slice_set, if◌then◌else◌}
-use Rattle.std.specs.List.{list_any, list_all, position, remove}
+use Rattle.std.specs.Prelude.{ℕ, zero, suc, ◌-◌, Bool, true, false, not, ◌&&◌, ◌||◌, List, [], ◌∷◌, ◌++◌, find, Option, Some, None, ℤ, slice_get, slice_set, if◌then◌else◌}
+use Rattle.std.specs.List.{list_all}
 use Rattle.caf_base.specs.declared.effect.Effect.{Effect}
-use Rattle.caf_base.specs.declared.fence.FenceClear.{FenceClear}
 use Rattle.caf_base.specs.declared.operation.OpName.{OpName}
-use Rattle.caf_base.specs.declared.operation.OpSpec.{OpSpec}
-use Rattle.caf_base.specs.declared.operation.OpSpec.TheVariants as spec
 use Rattle.caf_base.specs.declared.operation.Stage.{Stage}
-use Rattle.caf_base.specs.declared.operation.Stage.TheVariants as stage
 use Rattle.caf_base.specs.declared.team.FinishRef.{FinishRef}
 use Rattle.caf_base.specs.declared.team.Team.{Team}
 use Rattle.caf_base.specs.declared.trap.Trap.{Trap}
-use Rattle.caf_base.specs.FinishRef.{same_path, same_name, encloses}
+use Rattle.caf_base.specs.FinishRef.{same_name, encloses}
 use Rattle.caf_base.specs.Groups.{Offer, group_of}
-use Rattle.caf_base.specs.Operations.{same_op, is_implicit}
 use Rattle.caf_base.specs.Orders.{with_team}
+use Rattle.caf_history.specs.Splits.{is_split, last_of}
+use Rattle.caf_history.specs.declared.arrival.Arrival.{Arrival}
+use Rattle.caf_pending.specs.Pending.{clear_of, operation_named, passed_by, with_operation, without}
+use Rattle.caf_pending.specs.declared.operation.Operation.{Operation}
 use Rattle.caf_program.specs.declared.program.Program.{Program}
 use Rattle.caf_source.specs.declared.choice.Choice.{Choice}
 use Rattle.caf_source.specs.declared.choice.Choice.TheVariants as choice
@@ -22,10 +21,8 @@ use Rattle.caf_source.specs.declared.outcome.Outcome.{Outcome}
 use Rattle.caf_source.specs.declared.outcome.Outcome.TheVariants as outcome
 use Rattle.caf_source.specs.declared.outcome.Touched.{Touched}
 use Rattle.caf_source.specs.declared.outcome.Touched.TheVariants as touched
-use Rattle.caf_source.specs.declared.state.Arrival.{Arrival}
 use Rattle.caf_source.specs.declared.state.Image.{Image}
 use Rattle.caf_source.specs.declared.state.Live.{Live}
-use Rattle.caf_source.specs.declared.state.Operation.{Operation}
 use Rattle.caf_source.specs.Effects.{Did, image_step, live_did, main_did, place_of_task}
 use Rattle.caf_source.specs.Stages.{Reached, touch}
 use Rattle.caf_source.specs.State.{State, place_of}
@@ -47,29 +44,22 @@ abbrev pub running_in : Option Image → Option Image
 running_in None = None
 running_in (Some im) = untrapped im im.trap
 
--- the place of a pending operation, by its name
-abbrev pub place_of_op : OpName → List Operation → Option ℕ
-place_of_op name ops = position (λ (op : Operation). same_op op.name name) ops
-
-abbrev pub without_at : Option ℕ → List Operation → List Operation
-without_at None ops = ops
-without_at (Some k) ops = remove ops k
-
 -- without the ship that brought a task, if one did
 abbrev pub without_ship : Option OpName → List Operation → List Operation
 without_ship None ops = ops
-without_ship (Some name) ops = without_at (place_of_op name ops) ops
+without_ship (Some name) ops = without name ops
 
-abbrev pub one_if : Option Operation → List Operation
-one_if None = []
-one_if (Some op) = op ∷ []
+-- with the notice that was begun, if one was
+abbrev pub with_notice : Option Operation → List Operation → List Operation
+with_notice None ops = ops
+with_notice (Some op) ops = with_operation op ops
 
 -- the pending operations after a Step, or none where it isn't defined
 abbrev pub pending_after : Outcome → List Operation → Option (List Operation)
 pending_after outcome.Refused ops = None
 pending_after outcome.Local ops = Some ops
-pending_after (outcome.Begun op) ops = Some (ops ++ op ∷ [])
-pending_after (outcome.Ended ship notice) ops = Some (without_ship ship ops ++ one_if notice)
+pending_after (outcome.Begun op) ops = Some (with_operation op ops)
+pending_after (outcome.Ended ship notice) ops = Some (with_notice notice (without_ship ship ops))
 
 abbrev pub with_pending : List Image → Option (List Operation) → Option State
 with_pending images None = None
@@ -82,37 +72,9 @@ after_did s i d = with_pending (slice_set s.images i d.image) (pending_after d.o
 abbrev pub by_effect : Effect → State → ℕ → Image → Image → Live → Option State
 by_effect e s i before im l = after_did s i (main_did (live_did e i before before.main im l))
 
-abbrev pub is_start : Stage → Bool
-is_start stage.Start = true
-is_start _ = false
-
-abbrev pub is_store : Stage → Bool
-is_store stage.Store = true
-is_store _ = false
-
--- the source is the initiator's memory, and its Start hasn't been touched
-abbrev pub reads_here : ℕ → OpSpec → List Stage → Bool
-reads_here i (spec.Copy o) stages = nat_eq o.source.image i && list_any is_start stages
-reads_here i _ stages = false
-
--- the destination is the initiator's memory, and its Store hasn't been touched
-abbrev pub writes_here : ℕ → OpSpec → List Stage → Bool
-writes_here i (spec.Copy o) stages = nat_eq o.dest.image i && list_any is_store stages
-writes_here i _ stages = false
-
--- whether the task began it, and it is an implicit copy
-abbrev pub begun_by : ℕ → ℕ → Operation → Bool
-begun_by i t op = nat_eq op.name.image i && nat_eq op.task t && is_implicit op.spec
-
-abbrev pub clear_of : State → ℕ → ℕ → FenceClear
-clear_of s i t = record {
-  reads = not (list_any (λ (op : Operation). begun_by i t op && reads_here i op.spec op.stages) s.pending);
-  writes = not (list_any (λ (op : Operation). begun_by i t op && writes_here i op.spec op.stages) s.pending);
-}
-
 abbrev pub step_in : Program → State → ℕ → ℕ → Option Image → Option State
 step_in p s i t None = None
-step_in p s i t (Some im) = after_did s i (image_step p.subs (clear_of s i t) i im t)
+step_in p s i t (Some im) = after_did s i (image_step p.subs (clear_of s.pending i t) i im t)
 
 -- the task of a blocking operation goes on, with the value of a read
 abbrev pub answered_live : Option ℤ → Live → Live
@@ -137,65 +99,45 @@ answered_in i t value images (Some im) = slice_set images i (answered_image t va
 abbrev pub answered_images : ℕ → ℕ → Option ℤ → List Image → List Image
 answered_images i t value images = answered_in i t value images (slice_get images i)
 
--- an operation with its first stage done, and with the values that it read
-abbrev pub passed : Option (List ℤ) → Operation → Operation
-passed None op = record op { stages = without_first op.stages }
-passed (Some values) op = record op { stages = without_first op.stages; values = values }
-
-abbrev pub passed_in : Option (List ℤ) → ℕ → List Operation → Option Operation → List Operation
-passed_in values k ops None = ops
-passed_in values k ops (Some op) = slice_set ops k (passed values op)
-
-abbrev pub passed_at : Option (List ℤ) → ℕ → List Operation → List Operation
-passed_at values k ops = passed_in values k ops (slice_get ops k)
-
--- the pending operations after a stage of the one at a place, or none where the stage isn't defined
-abbrev pub pending_touched : Touched → ℕ → List Operation → Option (List Operation)
-pending_touched touched.Refused k ops = None
-pending_touched touched.Trapped k ops = Some ops
-pending_touched touched.Passed k ops = Some (passed_at None k ops)
-pending_touched (touched.Read values notice) k ops = Some (passed_at (Some values) k ops ++ one_if notice)
-pending_touched (touched.Completed notice) k ops = Some (remove ops k ++ one_if notice)
-pending_touched (touched.Answered value) k ops = Some (remove ops k)
+-- the pending operations after a stage of the one of a name, or none where the stage isn't defined
+abbrev pub pending_touched : Touched → OpName → List Operation → Option (List Operation)
+pending_touched touched.Refused name ops = None
+pending_touched touched.Trapped name ops = Some ops
+pending_touched touched.Passed name ops = Some (passed_by None name ops)
+pending_touched (touched.Read values notice) name ops = Some (with_notice notice (passed_by (Some values) name ops))
+pending_touched (touched.Completed notice) name ops = Some (with_notice notice (without name ops))
+pending_touched (touched.Answered value) name ops = Some (without name ops)
 
 -- the images after it, where that of the stage is as after it, and this task of an image began the operation
 abbrev pub images_touched : Touched → ℕ → ℕ → List Image → List Image
 images_touched (touched.Answered value) i t images = answered_images i t value images
 images_touched _ i t images = images
 
-abbrev pub after_reached : State → ℕ → ℕ → Operation → Reached → Option State
-after_reached s i k op r = with_pending (images_touched r.touched op.name.image op.task (slice_set s.images i r.image)) (pending_touched r.touched k s.pending)
+abbrev pub after_reached : State → ℕ → Operation → Reached → Option State
+after_reached s i op r = with_pending (images_touched r.touched op.name.image op.task (slice_set s.images i r.image)) (pending_touched r.touched op.name s.pending)
 
-abbrev pub touch_at : Program → State → ℕ → ℕ → Operation → Stage → Option Image → Option State
-touch_at p s i k op st None = None
-touch_at p s i k op st (Some im) = after_reached s i k op (touch p.subs i im op st)
+abbrev pub touch_at : Program → State → ℕ → Operation → Stage → Option Image → Option State
+touch_at p s i op st None = None
+touch_at p s i op st (Some im) = after_reached s i op (touch p.subs i im op st)
 
--- this stage of the pending operation at a place
-abbrev pub touch_staged : Program → State → ℕ → Stage → Option Operation → Option State
-touch_staged p s k st None = None
-touch_staged p s k st (Some op) = touch_at p s (place_of op st) k op st (running_in (slice_get s.images (place_of op st)))
+-- this stage of a pending operation
+abbrev pub touch_staged : Program → State → Stage → Operation → Option State
+touch_staged p s st op = touch_at p s (place_of op st) op st (running_in (slice_get s.images (place_of op st)))
 
 -- the next stage of an operation
-abbrev pub touch_next : Program → State → ℕ → Operation → List Stage → Option State
-touch_next p s k op [] = None
-touch_next p s k op (st ∷ rest) = touch_at p s (place_of op st) k op st (running_in (slice_get s.images (place_of op st)))
+abbrev pub touch_next : Program → State → Operation → List Stage → Option State
+touch_next p s op [] = None
+touch_next p s op (st ∷ rest) = touch_staged p s st op
 
-abbrev pub touch_found : Program → State → ℕ → Option Operation → Option State
-touch_found p s k None = None
-touch_found p s k (Some op) = touch_next p s k op op.stages
-
-abbrev pub touch_place : Program → State → Option ℕ → Option State
-touch_place p s None = None
-touch_place p s (Some k) = touch_found p s k (slice_get s.pending k)
+-- the next stage of the operation that is found by its name
+abbrev pub touch_found : Program → State → Option Operation → Option State
+touch_found p s None = None
+touch_found p s (Some op) = touch_next p s op op.stages
 
 -- what a member has brought to a split, if it has arrived at it
 abbrev pub offer_of : ℕ → Option Arrival → Option Offer
 offer_of image None = None
 offer_of image (Some a) = Some (record { image = image; colour = a.colour; key = a.key })
-
--- whether it is the arrival at a split of a team, by the split's number
-abbrev pub is_split : Team → ℕ → Arrival → Bool
-is_split team number a = same_path a.team.path team.path && nat_eq a.number number
 
 abbrev pub offer_in : Team → ℕ → ℕ → Option Image → Option Offer
 offer_in team number image None = None
@@ -221,7 +163,7 @@ team_of_split images (Some a) = team_by a (offers_of images a.team a.number a.te
 
 -- the split at which the main task of an image stands
 abbrev pub last_arrival : Image → Option Arrival
-last_arrival im = slice_get im.arrived (length im.arrived - 1)
+last_arrival im = last_of im.arrived
 
 -- the image once it has its new team and its main task has gone past the split
 abbrev pub parted_image : Image → ℕ → Team → Image
@@ -289,6 +231,6 @@ leave_in s i (Some im) = leave_finish s i im (standing im)
 -- the state after a choice
 abbrev pub next : Program → State → Choice → Option State
 next p s (choice.Step i t) = step_in p s i t (running_in (slice_get s.images i))
-next p s (choice.Touch name) = touch_place p s (place_of_op name s.pending)
+next p s (choice.Touch name) = touch_found p s (operation_named name s.pending)
 next p s (choice.Part i) = part_in s i (running_in (slice_get s.images i))
 next p s (choice.Leave i) = leave_in s i (running_in (slice_get s.images i))

@@ -1,9 +1,9 @@
 -- What a call that begins a notice has done.
 use Rattle.std.specs.Prelude.{◌≡◌, Option, Result, Ok, Err}
 use Rattle.caf_base.specs.declared.trap.Trap.{Trap}
+use Rattle.caf_pending.specs.declared.operation.Operation.{Operation}
 use Rattle.caf_source.specs.Begun.{Noticed}
 use Rattle.caf_source.specs.declared.state.Image.{Image}
-use Rattle.caf_source.specs.declared.state.Operation.{Operation}
 use Rattle.caf_treestep.specs.declared.fault.Fault.{Fault}
 use Rattle.caf_treestep.specs.declared.fault.Fault.TheVariants as fault
 

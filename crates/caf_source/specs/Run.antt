@@ -1,15 +1,14 @@
 -- Runs of the source machine: the state after a list of choices, how it stands, and what its report tells.
-use Rattle.std.specs.Prelude.{◌≡◌, Bool, true, false, ◌&&◌, map, nat_eq, List, [], ◌∷◌, Option, Some, None, ℕ, IsTrue}
+use Rattle.std.specs.Prelude.{◌≡◌, Bool, true, false, map, List, [], ◌∷◌, Option, Some, None, ℕ, IsTrue}
 use Rattle.std.specs.List.{list_any, list_all}
 use Rattle.caf_base.specs.declared.summary.Ending.{Ending}
 use Rattle.caf_base.specs.declared.summary.Ending.TheVariants as ending
 use Rattle.caf_base.specs.declared.summary.ImageSummary.{ImageSummary}
 use Rattle.caf_base.specs.declared.summary.Summary.{Summary}
 use Rattle.caf_base.specs.declared.trap.Trap.{Trap}
+use Rattle.caf_history.specs.Finishes.{is_program_finish}
 use Rattle.caf_program.specs.declared.program.Program.{Program}
 use Rattle.caf_source.specs.declared.choice.Choice.{Choice}
-use Rattle.caf_base.specs.declared.team.FinishRef.{FinishRef}
-use Rattle.caf_base.specs.FinishRef.{same_path}
 use Rattle.caf_source.specs.declared.state.Image.{Image}
 use Rattle.caf_source.specs.State.{State, first}
 use Rattle.caf_source.specs.Next.{next}
@@ -32,10 +31,6 @@ has_trap (Some t) = true
 
 abbrev pub has_trapped : State → Bool
 has_trapped s = list_any (λ (im : Image). has_trap im.trap) s.images
-
--- finish 0 of the team of all images, which has the empty path, is the body of the program
-abbrev pub is_program_finish : FinishRef → Bool
-is_program_finish f = same_path [] f.team.path && nat_eq f.number 0
 
 -- each main task has left it
 abbrev pub is_done : State → Bool

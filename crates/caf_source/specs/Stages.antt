@@ -17,13 +17,13 @@ use Rattle.caf_base.specs.ImageMemory.{ImageMemory}
 use Rattle.caf_base.specs.Places.{bind, with_posts, written}
 use Rattle.caf_base.specs.Sections.{section_values, with_section}
 use Rattle.caf_memory.specs.Bounds.{has_cells, posts_of, section_trap}
+use Rattle.caf_pending.specs.declared.operation.Operation.{Operation}
 use Rattle.caf_program.specs.declared.program.SubR.{SubR}
 use Rattle.caf_source.specs.Begun.{Noticed, notice_of}
 use Rattle.caf_source.specs.declared.outcome.Touched.{Touched}
 use Rattle.caf_source.specs.declared.outcome.Touched.TheVariants as touched
 use Rattle.caf_source.specs.declared.state.Image.{Image}
 use Rattle.caf_source.specs.declared.state.Live.{Live}
-use Rattle.caf_source.specs.declared.state.Operation.{Operation}
 use Rattle.caf_source.specs.Effects.{stopped}
 use Rattle.caf_treestep.specs.Step.{shipped_task}
 

@@ -6,16 +6,16 @@ use Rattle.caf_base.specs.ImageMemory.{ImageMemory}
 use Rattle.caf_base.specs.Operations.{place_of_stage}
 use Rattle.caf_base.specs.Places.{below}
 use Rattle.caf_base.specs.Start.{start_memory}
+use Rattle.caf_pending.specs.declared.operation.Operation.{Operation}
 use Rattle.caf_program.specs.declared.program.Program.{Program}
 use Rattle.caf_program.specs.declared.stmt.StmtR.{StmtR}
 use Rattle.caf_source.specs.declared.state.Image.{Image}
 use Rattle.caf_source.specs.declared.state.Live.{Live}
-use Rattle.caf_source.specs.declared.state.Operation.{Operation}
 use Rattle.caf_treestep.specs.Step.{main_task}
 
 pub record State : Type 0 where
   pub images : List Image
-  -- in the order in which they were begun
+  -- no two have one name, and their order has no meaning
   pub pending : List Operation
 
 -- the image at which a stage of an operation is performed

@@ -1,8 +1,8 @@
 -- What a call that makes a choice has done.
 use Rattle.std.specs.Prelude.{◌≡◌, ℕ, Bool, false, List, Option, Some, None}
 use Rattle.caf_base.specs.declared.team.FinishRef.{FinishRef}
+use Rattle.caf_pending.specs.declared.operation.Operation.{Operation}
 use Rattle.caf_source.specs.declared.state.Image.{Image}
-use Rattle.caf_source.specs.declared.state.Operation.{Operation}
 use Rattle.caf_source.specs.declared.stepped.Stepped.{Stepped}
 use Rattle.caf_source.specs.declared.stepped.Stepped.TheVariants as stepped
 use Rattle.caf_source.specs.Next.{may_leave, standing, with_image}

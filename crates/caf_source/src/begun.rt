@@ -6,8 +6,9 @@ ghost use Rattle.caf_base.specs.Operations.{image_of_event, is_counted, stages_o
 ghost use Rattle.caf_source.specs.Begun.{is_outside as names_outside, is_spent as spent, notice_of, operation_of as operation_by};
 ghost use Rattle.caf_source.specs.Noticing.{IsNoticed};
 
-use crate::{Image, Operation};
+use crate::Image;
 use caf_base::{EventAt, FinishRef, Memory, OpName, OpSpec, Sequence, Stage, Trap};
+use caf_pending::Operation;
 use caf_treestep::Fault;
 use std::alloc::Global;
 

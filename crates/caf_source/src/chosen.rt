@@ -2,8 +2,9 @@
 
 ghost use Rattle.std.specs.Prelude.{◌≡◌, ◌<◌, IfOk, OnOk, is_some, length, slice_get};
 ghost use Rattle.std.specs.Option.{option_copied};
+ghost use Rattle.caf_pending.specs.Pending.{operation_named};
 ghost use Rattle.caf_source.specs.Effects.{image_step};
-ghost use Rattle.caf_source.specs.Next.{images_touched, place_of_op as place_due, running_in, step_in, touch_place, touch_staged};
+ghost use Rattle.caf_source.specs.Next.{images_touched, running_in, step_in, touch_found};
 ghost use Rattle.caf_source.specs.Placed.{ArePlaceable, IsDoneAt, IsReachedAt};
 ghost use Rattle.caf_source.specs.Stages.{touch as touch_at};
 ghost use Rattle.caf_source.specs.State.{place_of as place_at};
@@ -12,10 +13,11 @@ ghost use Rattle.caf_source.specs.Stepping.{Makes, of_images};
 use crate::answer::answer;
 use crate::live::step_image;
 use crate::outcome::{Outcome, Touched};
-use crate::pending::{apply_outcome, apply_touched, clear_of, place_of_op};
+use crate::pending::{apply_outcome, apply_touched};
 use crate::touch::touch_stage;
-use crate::{Image, Operation, Stepped};
+use crate::{Image, Stepped};
 use caf_base::{FenceClear, Memory, OpName, OpSpec, Stage};
+use caf_pending::{Operation, Pending};
 use caf_program::{Program, SubR};
 use std::alloc::Global;
 
@@ -61,18 +63,18 @@ pub(crate) fn step_task(
     alloc: Global,
     program: &Program,
     images: &mut Vec<Image>,
-    pending: &mut Vec<Operation>,
+    pending: &mut Pending,
     image: u32,
     task: u32,
 ) -> Result<Stepped, Memory>
     requires { ArePlaceable images.old.items }
-    ensures made { IfOk result (λ stepped. Makes (step_in program.now (of_images images.old.items pending.old.items) image task (running_in (slice_get images.old.items image))) (of_images images.old.items pending.old.items) (of_images images.new.items pending.new.items) stepped) }
+    ensures made { IfOk result (λ stepped. Makes (step_in program.now (of_images images.old.items pending.old) image task (running_in (slice_get images.old.items image))) (of_images images.old.items pending.old) (of_images images.new.items pending.new) stepped) }
     ensures memory { IfOk result (λ _. ArePlaceable images.new.items) }
 {
     if !is_running(images.as_slice(), image) {
         return Ok(Stepped::NotEnabled);
     }
-    let clear = clear_of(pending.as_slice(), image, task);
+    let clear = pending.clear_of(image, task);
     let outcome = step_at(alloc, program.subs.as_slice(), clear, images, image, task)?;
     apply_outcome(pending, outcome)
 }
@@ -152,55 +154,31 @@ fn answer_touched(
     }
 }
 
-/// The stage of the operation at a place.
-fn touch_pending(
-    alloc: Global,
-    program: &Program,
-    images: &mut Vec<Image>,
-    pending: &mut Vec<Operation>,
-    at: usize,
-    stage: Stage,
-) -> Result<Stepped, Memory>
-    requires at { at < length pending.old.items }
-    requires memory { ArePlaceable images.old.items }
-    ensures made { IfOk result (λ stepped. Makes (touch_staged program.now (of_images images.old.items pending.old.items) at stage (slice_get pending.old.items at)) (of_images images.old.items pending.old.items) (of_images images.new.items pending.new.items) stepped) }
-    ensures memory { IfOk result (λ _. ArePlaceable images.new.items) }
-{
-    let operation = &pending[at];
-    let image = place_of(operation, stage);
-    if !is_running(images.as_slice(), image) {
-        return Ok(Stepped::NotEnabled);
-    }
-    let touched = touch_image(
-        alloc,
-        program.subs.as_slice(),
-        images,
-        image,
-        operation,
-        stage,
-    )?;
-    let name = operation.name;
-    answer_touched(alloc, images, name.image, operation.task, &touched)?;
-    apply_touched(alloc, pending, at, touched)
-}
-
 /// The next stage of a pending operation.
 pub(crate) fn touch(
     alloc: Global,
     program: &Program,
     images: &mut Vec<Image>,
-    pending: &mut Vec<Operation>,
+    pending: &mut Pending,
     name: OpName,
 ) -> Result<Stepped, Memory>
     requires { ArePlaceable images.old.items }
-    ensures made { IfOk result (λ stepped. Makes (touch_place program.now (of_images images.old.items pending.old.items) (place_due name pending.old.items)) (of_images images.old.items pending.old.items) (of_images images.new.items pending.new.items) stepped) }
+    ensures made { IfOk result (λ stepped. Makes (touch_found program.now (of_images images.old.items pending.old) (operation_named name pending.old)) (of_images images.old.items pending.old) (of_images images.new.items pending.new) stepped) }
     ensures memory { IfOk result (λ _. ArePlaceable images.new.items) }
 {
-    let Some(at) = place_of_op(pending.as_slice(), name) else {
+    let Some(operation) = pending.get(name) else {
         return Ok(Stepped::NotEnabled);
     };
-    let Some(stage) = next_stage(&pending[at]) else {
+    let Some(stage) = next_stage(operation) else {
         return Ok(Stepped::NotEnabled);
     };
-    touch_pending(alloc, program, images, pending, at, stage)
+    let image = place_of(operation, stage);
+    if !is_running(images.as_slice(), image) {
+        return Ok(Stepped::NotEnabled);
+    }
+    let subs = program.subs.as_slice();
+    let touched = touch_image(alloc, subs, images, image, operation, stage)?;
+    let name = operation.name;
+    answer_touched(alloc, images, name.image, operation.task, &touched)?;
+    apply_touched(alloc, pending, name, touched)
 }

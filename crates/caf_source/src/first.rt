@@ -5,6 +5,7 @@ ghost use Rattle.caf_treestep.specs.Step.{main_task as main_task_of};
 
 use crate::{Image, Live};
 use caf_base::{FinishRef, Memory, Sequence, Stack};
+use caf_history::{Arrivals, FinishesLeft};
 use caf_memory::ImageMemory;
 use caf_program::{Program, StmtR, copy_block};
 use caf_treestep::{Frame, Task, Todo, push_block, team_world};
@@ -69,7 +70,7 @@ pub(crate) fn first_image(
         shipped: Sequence::new(alloc),
         operations: 0,
         ships: 0,
-        left: Sequence::new(alloc),
-        arrived: Sequence::new(alloc),
+        left: FinishesLeft::new(alloc),
+        arrived: Arrivals::new(alloc),
     })
 }

@@ -4,20 +4,21 @@ ghost use Rattle.std.specs.Prelude.{◌≡◌, IfOk, List, slice_get};
 ghost use Rattle.std.specs.List.{list_all, list_any};
 ghost use Rattle.std.specs.Option.{option_copied};
 ghost use Rattle.caf_base.specs.Places.{below};
+ghost use Rattle.caf_pending.specs.declared.operation.Operation.{Operation as OperationOf};
 ghost use Rattle.caf_source.specs.declared.state.Live.{Live as LiveOf};
-ghost use Rattle.caf_source.specs.declared.state.Operation.{Operation as OperationOf};
-ghost use Rattle.caf_source.specs.Ending.{can_copy as copy_can, can_go as choice_can, can_go_at as image_can, can_leave as leave_can, can_part as part_can, can_start as start_can, can_step as step_can, can_step_shipped as shipped_can, can_touch as touch_can, can_touch_next as next_can, can_touch_spec as spec_can, has_arrived as has_come_to, have_arrived as all_come, live_at as live_by};
+ghost use Rattle.caf_source.specs.Ending.{can_copy as copy_can, can_go as choice_can, can_go_at as image_can, can_leave as leave_can, can_part as part_can, can_start as start_can, can_step as step_can, can_step_shipped as shipped_can, can_touch as touch_can, can_touch_named as named_can, can_touch_next as next_can, can_touch_spec as spec_can, has_arrived as has_come_to, have_arrived as all_come, live_at as live_by};
 ghost use Rattle.caf_source.specs.Stepping.{of_images};
 
 use crate::chosen::{next_stage, place_of, running};
 use crate::leave::can_leave;
 use crate::live::place_of_task;
 use crate::offer::offer_in;
-use crate::pending::{clear_of, place_of_op};
 use crate::split::{awaited_object, last_arrival};
 use crate::still::is_task_still;
-use crate::{Arrival, Image, Live, Operation};
+use crate::{Image, Live};
 use caf_base::{CopyOrder, EventAt, Memory, OpName, OpSpec, Stage};
+use caf_history::Arrival;
+use caf_pending::{Operation, Pending};
 use caf_program::SubR;
 
 /// A live task of an image, by its number.
@@ -34,7 +35,7 @@ fn live_at(image: &Image, task: u32) -> Option<&Live>
 }
 
 /// Whether a Step of a task is defined.
-fn can_step(images: &[Image], pending: &[Operation], image: u32, task: u32) -> bool
+fn can_step(images: &[Image], pending: &Pending, image: u32, task: u32) -> bool
     ensures { result ≡ step_can (of_images images.now pending.now) image task }
 {
     match running(images, image) {
@@ -42,7 +43,7 @@ fn can_step(images: &[Image], pending: &[Operation], image: u32, task: u32) -> b
         Some(found) => match live_at(found, task) {
             None => false,
             Some(live) => {
-                !is_task_still(clear_of(pending, image, task), &live.task, &found.memory)
+                !is_task_still(pending.clear_of(image, task), &live.task, &found.memory)
             }
         },
     }
@@ -103,12 +104,12 @@ fn can_touch_next(subs: &[SubR], images: &[Image], operation: &Operation) -> boo
 }
 
 /// Whether the next stage of the pending operation of a name is defined.
-fn can_touch(subs: &[SubR], images: &[Image], pending: &[Operation], name: OpName) -> bool
+fn can_touch(subs: &[SubR], images: &[Image], pending: &Pending, name: OpName) -> bool
     ensures { result ≡ touch_can subs.now (of_images images.now pending.now) name }
 {
-    match place_of_op(pending, name) {
+    match pending.get(name) {
         None => false,
-        Some(at) => can_touch_next(subs, images, &pending[at]),
+        Some(operation) => can_touch_next(subs, images, operation),
     }
 }
 
@@ -139,7 +140,7 @@ fn have_arrived(images: &[Image], arrival: Option<&Arrival>) -> bool
 }
 
 /// Whether an image may go past its split.
-fn can_part(images: &[Image], pending: &[Operation], image: u32) -> bool
+fn can_part(images: &[Image], pending: &Pending, image: u32) -> bool
     ensures { result ≡ part_can (of_images images.now pending.now) image }
 {
     match running(images, image) {
@@ -151,7 +152,7 @@ fn can_part(images: &[Image], pending: &[Operation], image: u32) -> bool
 }
 
 /// Whether a Step of one of these tasks of an image is defined.
-fn can_step_some(images: &[Image], pending: &[Operation], image: u32, tasks: &[Live]) -> bool
+fn can_step_some(images: &[Image], pending: &Pending, image: u32, tasks: &[Live]) -> bool
     ensures { result ≡ list_any (λ (l : LiveOf). step_can (of_images images.now pending.now) image l.number) tasks.now }
 {
     tasks
@@ -160,7 +161,7 @@ fn can_step_some(images: &[Image], pending: &[Operation], image: u32, tasks: &[L
 }
 
 /// Whether a Step of a shipped task of an image is defined.
-fn can_step_shipped(images: &[Image], pending: &[Operation], image: u32) -> bool
+fn can_step_shipped(images: &[Image], pending: &Pending, image: u32) -> bool
     ensures { result ≡ shipped_can (of_images images.now pending.now) image (slice_get images.now image) }
 {
     match images.get(image as usize) {
@@ -170,7 +171,7 @@ fn can_step_shipped(images: &[Image], pending: &[Operation], image: u32) -> bool
 }
 
 /// Whether a choice of an image is defined.
-fn can_go_at(images: &[Image], pending: &[Operation], image: u32) -> bool
+fn can_go_at(images: &[Image], pending: &Pending, image: u32) -> bool
     ensures { result ≡ image_can (of_images images.now pending.now) image }
 {
     can_step(images, pending, image, 0)
@@ -180,7 +181,7 @@ fn can_go_at(images: &[Image], pending: &[Operation], image: u32) -> bool
 
 /// Whether a choice of one of so many images is defined.
 #[tactic(auto, using(crate::proofs::Below::any_below, crate::proofs::Below::none_more))]
-fn can_go_below(images: &[Image], pending: &[Operation], count: u32) -> bool
+fn can_go_below(images: &[Image], pending: &Pending, count: u32) -> bool
     ensures { result ≡ list_any (image_can (of_images images.now pending.now)) (below count) }
 {
     for image in 0..count {
@@ -191,15 +192,30 @@ fn can_go_below(images: &[Image], pending: &[Operation], count: u32) -> bool
     false
 }
 
+/// Whether the next stage of the pending operation at a place is defined.
+fn can_touch_place(subs: &[SubR], images: &[Image], pending: &Pending, place: usize) -> bool
+    ensures { result ≡ named_can subs.now (of_images images.now pending.now) (slice_get pending.now place) }
+{
+    match pending.at(place) {
+        None => false,
+        Some(operation) => can_touch(subs, images, pending, operation.name),
+    }
+}
+
 /// Whether the next stage of a pending operation is defined.
-fn can_touch_some(subs: &[SubR], images: &[Image], pending: &[Operation]) -> bool
+fn can_touch_some(subs: &[SubR], images: &[Image], pending: &Pending) -> bool
     ensures { result ≡ list_any (λ (op : OperationOf). touch_can subs.now (of_images images.now pending.now) op.name) pending.now }
 {
-    pending.iter().any(|operation| can_touch(subs, images, pending, operation.name))
+    for place in 0..pending.len() {
+        if can_touch_place(subs, images, pending, place) {
+            return true;
+        }
+    }
+    false
 }
 
 /// Whether some choice is defined.
-pub(crate) fn can_go(subs: &[SubR], images: &[Image], pending: &[Operation]) -> Result<bool, Memory>
+pub(crate) fn can_go(subs: &[SubR], images: &[Image], pending: &Pending) -> Result<bool, Memory>
     ensures { IfOk result (λ can. can ≡ choice_can subs.now (of_images images.now pending.now)) }
 {
     let count = u32::try_from(images.len()).map_err(|_| Memory)?;

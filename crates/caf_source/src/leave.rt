@@ -4,34 +4,20 @@ ghost use Rattle.std.specs.Prelude.{◌≡◌, [], ◌∷◌, ◌++◌, IfOk, Li
 ghost use Rattle.std.specs.List.{list_all};
 ghost use Rattle.std.specs.Option.{option_copied};
 ghost use Rattle.caf_base.specs.declared.team.FinishRef.{FinishRef};
-ghost use Rattle.caf_base.specs.FinishRef.{encloses as encloses_finish, same_name as same_finish_name};
+ghost use Rattle.caf_base.specs.FinishRef.{encloses as encloses_finish};
 ghost use Rattle.caf_source.specs.declared.state.Image.{Image};
 ghost use Rattle.caf_source.specs.declared.state.Live.{Live};
-ghost use Rattle.caf_source.specs.declared.state.Operation.{Operation};
 ghost use Rattle.caf_source.specs.Next.{has_come as has_come_to, is_finish, leave_in, may_leave as may_leave_at, past_end, running_in, standing as standing_at, stands as stands_at};
 ghost use Rattle.caf_source.specs.Placed.{ArePlaceable};
 ghost use Rattle.caf_source.specs.Stepping.{Makes, can_leave_in, of_images};
 
 use crate::chosen::running;
-use crate::{Image, Operation, Stepped};
+use crate::{Image, Stepped};
 use caf_base::{FinishRef, Memory, Sequence};
+use caf_pending::{Pending, encloses, same_name};
 use caf_treestep::{Task, Todo};
 use std::alloc::Global;
 use std::mem;
-
-/// Whether two finishes are named alike, by the team's path and the number.
-fn same_name(a: &FinishRef, b: &FinishRef) -> bool
-    ensures { result ≡ same_finish_name a.now b.now }
-{
-    a.team.path == b.team.path && a.number == b.number
-}
-
-/// Whether a list of finishes has one of this name.
-fn encloses(f: &FinishRef, finishes: &[FinishRef]) -> bool
-    ensures { result ≡ encloses_finish f.now finishes.now }
-{
-    finishes.iter().any(|other| same_name(f, other))
-}
 
 /// Whether a task waits for nothing and stands at the end of a finish.
 fn stands(task: &Task) -> bool
@@ -92,7 +78,7 @@ fn has_come(images: &[Image], member: u32, f: &FinishRef) -> bool
 {
     match images.get(member as usize) {
         None => false,
-        Some(image) => is_at(image, f) || encloses(f, image.left.as_slice()),
+        Some(image) => is_at(image, f) || image.left.has(f),
     }
 }
 
@@ -105,15 +91,6 @@ fn has_no_task(image: &Image, f: &FinishRef) -> bool
         .as_slice()
         .iter()
         .all(|live| !encloses(f, live.finishes.as_slice()))
-}
-
-/// Whether no pending operation has the finish in its list.
-fn has_no_operation(pending: &[Operation], f: &FinishRef) -> bool
-    ensures { result ≡ list_all (λ (op : Operation). not (encloses_finish f.now op.finishes)) pending.now }
-{
-    pending
-        .iter()
-        .all(|operation| !encloses(f, operation.finishes.as_slice()))
 }
 
 /// Whether no live shipped task of any image has the finish in its list.
@@ -131,15 +108,15 @@ fn have_come(images: &[Image], members: &[u32], f: &FinishRef) -> bool
 }
 
 /// Whether a finish may be left: all members have come to its end, and nothing that it encloses is pending.
-fn may_leave(images: &[Image], pending: &[Operation], f: &FinishRef) -> bool
+fn may_leave(images: &[Image], pending: &Pending, f: &FinishRef) -> bool
     ensures { result ≡ may_leave_at (of_images images.now pending.now) f.now }
 {
     have_come(images, f.team.members.as_slice(), f)
-        && (has_no_operation(pending, f) && has_no_live(images, f))
+        && (pending.encloses_none(f) && has_no_live(images, f))
 }
 
 /// Whether an image stands at the end of a finish that may be left.
-pub(crate) fn can_leave(images: &[Image], pending: &[Operation], image: u32) -> bool
+pub(crate) fn can_leave(images: &[Image], pending: &Pending, image: u32) -> bool
     ensures { result ≡ can_leave_in (of_images images.now pending.now) (running_in (slice_get images.now image)) }
 {
     match running(images, image) {
@@ -155,7 +132,7 @@ pub(crate) fn can_leave(images: &[Image], pending: &[Operation], image: u32) -> 
 pub(crate) fn leave(
     alloc: Global,
     images: &mut Vec<Image>,
-    pending: &[Operation],
+    pending: &Pending,
     image: u32,
 ) -> Result<Stepped, Memory>
     requires { ArePlaceable images.old.items }

@@ -33,7 +33,7 @@ pub use outcome::{Outcome, Touched};
 pub use rewind::Saved;
 pub use runs::{Certified, certify};
 pub use section::Taken;
-pub use state::{Arrival, Image, Live, Operation};
+pub use state::{Image, Live};
 pub use stepped::Stepped;
 
 #[cfg(test)]

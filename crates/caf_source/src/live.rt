@@ -1,12 +1,11 @@
 //! A Step of a live task of an image.
 
 ghost use Rattle.std.specs.Prelude.{◌≡◌, ◌+◌, ◌<◌, ◌∷◌, ◌++◌, [], IfOk, List, None, OnOk, length, slice_set, suc};
-ghost use Rattle.std.specs.List.{count_by};
 ghost use Rattle.caf_base.specs.FinishRef.{same_path as same_team_path};
+ghost use Rattle.caf_history.specs.Finishes.{count_finishes as finishes_due};
 ghost use Rattle.caf_source.specs.Begun.{notice_of};
-ghost use Rattle.caf_source.specs.declared.state.Arrival.{Arrival};
 ghost use Rattle.caf_source.specs.declared.state.Live.{Live as LiveOf};
-ghost use Rattle.caf_source.specs.Effects.{arrival_of, begins as begins_at, count_finishes as finishes_due, did, ends as ends_at, entered, image_step, kept_at, lived, live_step, main_did, place_of_task as place_due, step_at_place};
+ghost use Rattle.caf_source.specs.Effects.{arrival_of, begins as begins_at, did, ends as ends_at, entered, image_step, kept_at, lived, live_step, main_did, place_of_task as place_due, step_at_place};
 ghost use Rattle.caf_source.specs.Living.{put_back as put_back_at};
 ghost use Rattle.caf_source.specs.Rewound.{rewound_live};
 ghost use Rattle.caf_treestep.specs.Placeable.{IsPlaceable};
@@ -14,10 +13,11 @@ ghost use Rattle.caf_treestep.specs.Placeable.{IsPlaceable};
 use crate::begun::{copy_finishes, is_outside, is_spent, notice, operation_of};
 use crate::outcome::Outcome;
 use crate::rewind::{Saved, rewind, step_saved};
-use crate::{Arrival, Image, Live};
+use crate::{Image, Live};
 use caf_base::{
     Effect, EventAt, FenceClear, FinishRef, Memory, OpSpec, Sequence, Stack, Team, Trap,
 };
+use caf_history::Arrival;
 use caf_program::SubR;
 use caf_treestep::{Fault, Frame, Task};
 use std::alloc::Global;
@@ -47,19 +47,6 @@ fn count_finishes(finishes: &[FinishRef], team: &Team) -> usize
     let mut count = 0;
     for finish in finishes {
         if same_path(&finish.team, team) && finish.number != 0 {
-            count += 1;
-        }
-    }
-    count
-}
-
-/// How many of these splits are of a team.
-fn count_splits(arrived: &[Arrival], team: &Team) -> usize
-    ensures { result ≡ count_by (λ (a : Arrival). same_team_path a.team.path team.now.path) arrived.now }
-{
-    let mut count = 0;
-    for arrival in arrived {
-        if same_path(&arrival.team, team) {
             count += 1;
         }
     }
@@ -141,7 +128,7 @@ fn enclose(
 fn enters(alloc: Global, image: &Image, live: &mut Live, team: Team) -> Result<(), Memory>
     ensures { OnOk result (live.new ≡ entered image.now live.old team) }
 {
-    let left = count_finishes(image.left.as_slice(), &team);
+    let left = image.left.count(&team);
     let around = count_finishes(live.finishes.as_slice(), &team);
     let number = one_more(left, around)?;
     enclose(alloc, &mut live.finishes, FinishRef { team, number })
@@ -152,7 +139,7 @@ fn arrives(image: &mut Image, team: Team, colour: i64, key: i64) -> Result<(), M
     ensures arrived { OnOk result (image.new ≡ record image.old { arrived = image.old.arrived ++ arrival_of image.old team colour key ∷ [] }) }
     ensures memory { image.new.memory ≡ image.old.memory }
 {
-    let number = one_more(count_splits(image.arrived.as_slice(), &team), 0)?;
+    let number = one_more(image.arrived.count(&team), 0)?;
     image.arrived.push(Arrival {
         team,
         number,

@@ -13,8 +13,9 @@ use crate::first::first_image;
 use crate::leave::leave;
 use crate::report::{ending, summary_of};
 use crate::split::part;
-use crate::{Choice, Image, Operation, Stepped};
+use crate::{Choice, Image, Stepped};
 use caf_base::{Ending, Memory, Sequence, Summary};
+use caf_pending::Pending;
 use caf_program::{Accepted, Program, each_held_value_has_its_read};
 use caf_treestep::memories_begin_placeable;
 use std::alloc::Global;
@@ -25,8 +26,8 @@ use std::marker::Model;
 pub struct State {
     alloc: Global,
     images: Vec<Image>,
-    /// In the order in which they were begun. One that is complete is taken off.
-    pending: Vec<Operation>,
+    /// One that is complete is taken off.
+    pending: Pending,
     /// How many choices were done.
     done: u32,
     /// Whether memory was wanting once.
@@ -42,7 +43,7 @@ impl Model for State {
 
     ghost coded = { Prim.hlevel (codes, statement.the_row.coded) };
 
-    ghost view = { λ s. record { state = record { images = s.images.items; pending = s.pending.items }; done = s.done; failed = s.failed } };
+    ghost view = { λ s. record { state = record { images = s.images.items; pending = s.pending }; done = s.done; failed = s.failed } };
 }
 
 impl State {
@@ -62,7 +63,7 @@ impl State {
         Ok(State {
             alloc,
             images: all,
-            pending: Vec::new(alloc),
+            pending: Pending::new(alloc),
             done: 0,
             failed: false,
         })
@@ -93,12 +94,7 @@ impl State {
                 name,
             ),
             Choice::Part(image) => part(self.alloc, &mut self.images, image),
-            Choice::Leave(image) => leave(
-                self.alloc,
-                &mut self.images,
-                self.pending.as_slice(),
-                image,
-            ),
+            Choice::Leave(image) => leave(self.alloc, &mut self.images, &self.pending, image),
         }
     }
 
@@ -119,7 +115,7 @@ impl State {
         }
         each_held_value_has_its_read();
         let subs = a.program().subs.as_slice();
-        ending(subs, self.images.as_slice(), self.pending.as_slice())
+        ending(subs, self.images.as_slice(), &self.pending)
     }
 
     /// What a report tells of the state: the lines and the trap of each image, and how the state stands.

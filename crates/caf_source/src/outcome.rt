@@ -1,5 +1,5 @@
-use crate::Operation;
 use caf_base::{OpName, Sequence};
+use caf_pending::Operation;
 
 /// What a Step of a task does beyond its image.
 #[derive(Drop)]

@@ -2,28 +2,23 @@
 
 ghost use Rattle.std.specs.Prelude.{◌≡◌, [], IfOk};
 ghost use Rattle.std.specs.List.{list_any};
+ghost use Rattle.caf_history.specs.Finishes.{is_program_finish as is_body};
 ghost use Rattle.caf_source.specs.Ending.{ending_of};
-ghost use Rattle.caf_source.specs.Run.{has_trapped as any_trapped, is_done as all_done, is_program_finish as is_body, summary_of as told_of};
+ghost use Rattle.caf_source.specs.Run.{has_trapped as any_trapped, is_done as all_done, summary_of as told_of};
 ghost use Rattle.caf_source.specs.Stepping.{of_images};
 
+use crate::Image;
 use crate::going::can_go;
-use crate::{Image, Operation};
-use caf_base::{Ending, FinishRef, ImageSummary, Memory, Sequence, Text};
+use caf_base::{Ending, ImageSummary, Memory, Sequence, Text};
+use caf_pending::Pending;
 use caf_program::SubR;
 use std::alloc::Global;
-
-/// Whether a finish is the body of the program.
-fn is_program_finish(f: &FinishRef) -> bool
-    ensures { result ≡ is_body f.now }
-{
-    f.team.path.is_empty() && f.number == 0
-}
 
 /// Whether an image's main task has left the program's finish.
 fn has_left_program(image: &Image) -> bool
     ensures { result ≡ list_any is_body image.now.left }
 {
-    image.left.as_slice().iter().any(|f| is_program_finish(f))
+    image.left.has_program()
 }
 
 /// What a report tells of an image.
@@ -53,11 +48,7 @@ fn is_done(images: &[Image]) -> bool
 }
 
 /// How a state stands.
-pub(crate) fn ending(
-    subs: &[SubR],
-    images: &[Image],
-    pending: &[Operation],
-) -> Result<Ending, Memory>
+pub(crate) fn ending(subs: &[SubR], images: &[Image], pending: &Pending) -> Result<Ending, Memory>
     ensures { IfOk result (λ ending. ending ≡ ending_of subs.now (of_images images.now pending.now)) }
 {
     if has_trapped(images) {

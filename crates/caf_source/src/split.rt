@@ -2,7 +2,7 @@
 
 ghost use Rattle.std.specs.Prelude.{◌≡◌, IfOk, List, slice_get};
 ghost use Rattle.std.specs.Option.{option_copied};
-ghost use Rattle.caf_source.specs.declared.state.Operation.{Operation as OperationOf};
+ghost use Rattle.caf_pending.specs.declared.operation.Operation.{Operation as OperationOf};
 ghost use Rattle.caf_source.specs.Next.{last_arrival as last_due, part_in, parted_image as parted, running_in, team_of_split};
 ghost use Rattle.caf_source.specs.Placed.{ArePlaceable};
 ghost use Rattle.caf_source.specs.Splits.{awaited_object as object_due};
@@ -10,8 +10,9 @@ ghost use Rattle.caf_source.specs.Stepping.{Makes, of_images};
 
 use crate::chosen::running;
 use crate::offer::{group, offers};
-use crate::{Arrival, Image, Stepped};
+use crate::{Image, Stepped};
 use caf_base::{Memory, Team};
+use caf_history::Arrival;
 use caf_treestep::Wait;
 use std::alloc::Global;
 
@@ -31,7 +32,7 @@ pub(crate) fn awaited_object(image: &Image) -> Option<u32>
 pub(crate) fn last_arrival(image: &Image) -> Option<&Arrival>
     ensures { option_copied result ≡ last_due image.now }
 {
-    image.arrived.get(image.arrived.len().saturating_sub(1))
+    image.arrived.last()
 }
 
 /// The new team of an image that has arrived at a split, once all members have.

@@ -1,21 +1,7 @@
-use caf_base::{FinishRef, OpName, OpSpec, Sequence, Stage, Team, Trap};
+use caf_base::{FinishRef, OpName, Sequence, Trap};
+use caf_history::{Arrivals, FinishesLeft};
 use caf_memory::ImageMemory;
 use caf_treestep::Task;
-
-/// An operation that is pending.
-#[derive(Drop)]
-pub struct Operation {
-    pub name: OpName,
-    pub spec: OpSpec,
-    /// The stages still to come.
-    pub stages: Sequence<Stage>,
-    /// The values in hand, once the source of a copy was read.
-    pub values: Sequence<i64>,
-    /// The finishes that enclose what began it, the innermost first.
-    pub finishes: Sequence<FinishRef>,
-    /// The task that began it.
-    pub task: u32,
-}
 
 /// A live task of an image.
 #[derive(Drop)]
@@ -27,15 +13,6 @@ pub struct Live {
     pub finishes: Sequence<FinishRef>,
     /// The ship that brought it.
     pub ship: Option<OpName>,
-}
-
-/// A split that an image has arrived at.
-#[derive(Drop)]
-pub struct Arrival {
-    pub team: Team,
-    pub number: u32,
-    pub colour: i64,
-    pub key: i64,
 }
 
 /// An image: its memory, its tasks, and how far its main task has come.
@@ -51,7 +28,7 @@ pub struct Image {
     /// The number of ships that it has taken.
     pub ships: u32,
     /// The finishes that its main task has left. Those entered and not left enclose it.
-    pub left: Sequence<FinishRef>,
+    pub left: FinishesLeft,
     /// The splits that its main task has arrived at, those that it has passed among them.
-    pub arrived: Sequence<Arrival>,
+    pub arrived: Arrivals,
 }

@@ -7,4 +7,4 @@ use Rattle.caf_source.proofs.machine.step.Goals as goal
 
 pub returns-in-Ok-Done-clause-ready : goal.returns-in-Ok-Done-clause-ready
 returns-in-Ok-Done-clause-ready c =
-    ready_when c.s-2.inside.failed (of_images c.s-2.inside.images.items c.s-2.inside.pending.items) (subst (λ (k : Kept). ArePlaceable k.state.images) (sym c.s-2.view_is) c.in-Ok-Done.ensures.memory)
+    ready_when c.s-2.inside.failed (of_images c.s-2.inside.images.items c.s-2.inside.pending) (subst (λ (k : Kept). ArePlaceable k.state.images) (sym c.s-2.view_is) c.in-Ok-Done.ensures.memory)

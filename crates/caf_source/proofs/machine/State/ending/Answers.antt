@@ -1,7 +1,6 @@
 use Rattle.std.proofs.Common.{◌≡◌, ◌∙◌, List, ap}
 use Rattle.caf_program.specs.declared.program.Program.{Program}
 use Rattle.caf_source.specs.declared.state.Image.{Image}
-use Rattle.caf_source.specs.declared.state.Operation.{Operation}
 use Rattle.caf_source.specs.Kept.{Kept}
 use Rattle.caf_source.specs.Stepping.{of_images}
 use Rattle.caf_source.proofs.Defined.{ReadsAreHeld}
@@ -12,8 +11,7 @@ pub returns : goal.returns
 returns c =
     let law : ReadsAreHeld = record { listed = c.each_held_value_has_its_read.ensures.listed; past = c.each_held_value_has_its_read.ensures.past } in
     let same : c.as_slice-subs.result.now ≡ c.args.a.now.subs = c.as_slice-subs.ensures ∙ ap (λ (p : Program). p.subs) c.program.ensures.same in
-    let at : of_images c.as_slice.result.now c.as_slice-2.result.now ≡ c.args.self.now.state =
-    ap (λ (l : List Image). of_images l c.as_slice-2.result.now) c.as_slice.ensures.value
-    ∙ ap (λ (l : List Operation). of_images c.self.inside.images.items l) c.as_slice-2.ensures.value
+    let at : of_images c.as_slice.result.now c.self.inside.pending ≡ c.args.self.now.state =
+    ap (λ (l : List Image). of_images l c.self.inside.pending) c.as_slice.ensures.value
     ∙ ap (λ (k : Kept). k.state) c.self.view_is in
-    stands_led c.args.a.now c.as_slice-subs.result.now c.args.self.now.state (of_images c.as_slice.result.now c.as_slice-2.result.now) c.ending.result c.ending.ensures same at law
+    stands_led c.args.a.now c.as_slice-subs.result.now c.args.self.now.state (of_images c.as_slice.result.now c.self.inside.pending) c.ending.result c.ending.ensures same at law

@@ -1,0 +1,6 @@
+mod Answered
+mod Entries
+mod Extends
+mod Paths
+mod Pushed
+mod Spots

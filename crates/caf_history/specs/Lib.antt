@@ -1,0 +1,5 @@
+pub mod Finishes
+pub mod Index
+pub mod Kept
+pub mod Places
+pub mod Splits

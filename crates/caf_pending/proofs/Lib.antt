@@ -1,0 +1,4 @@
+mod Named
+mod Counting
+mod Fences
+mod Keeps
