@@ -29,18 +29,18 @@ use Rattle.caf_exprgen.specs.Placed.{HasAt}
 use Rattle.caf_codegen.specs.Agreement.{SameStep}
 use Rattle.caf_codegen.specs.StmtCode.{assign_code}
 use Rattle.caf_codegen.proofs.Follows.{Continues}
-use Rattle.caf_codegen.proofs.Related.{Around, AreCallers, Related, Setting, SameFor, code_at, found_ends, leads_found, leads_last, leads_on, leads_value, ran_same, step_by, trap_same, tree_at}
+use Rattle.caf_codegen.proofs.Related.{AreCallers, Around, Related, SameFor, Setting, code_at, code_with, found_ends, leads_found, leads_last, leads_on, leads_value, ran_same, step_by, trap_same, tree_with}
 
 -- where the tree task stands before a statement
-abbrev pub before : Around → List ℤ → Todo → List Todo → ImageMemory → At
-before w locals s rest m = record { task = tree_at w locals (s ∷ rest); memory = m; rest = rest }
+abbrev pub before : Around → List ℤ → List ℤ → Todo → List Todo → ImageMemory → At
+before w held locals s rest m = record { task = tree_with w held locals (s ∷ rest); memory = m; rest = rest }
 
-module _ (g : Setting) (w : Around) (callers : AreCallers g.code g.program w.end w.below w.calls) (locals : List ℤ) (loops : List Loop) (a : ℕ) (m : ImageMemory) (s : Todo) (rest : List Todo) where
+module _ (g : Setting) (w : Around) (callers : AreCallers g.code g.program w.end w.below w.calls) (held : List ℤ) (locals : List ℤ) (loops : List Loop) (a : ℕ) (m : ImageMemory) (s : Todo) (rest : List Todo) where
   abbrev here : Task
-  here = code_at w locals loops a
+  here = code_with w held locals loops a
 
   abbrev at : At
-  at = before w locals s rest m
+  at = before w held locals s rest m
 
   -- the code's Step is that of the tree
   abbrev Same : After TreeTask → Type 0
@@ -64,7 +64,7 @@ module _ (g : Setting) (w : Around) (callers : AreCallers g.code g.program w.end
       let tail = instr.Store reach.Scalar o ∷ instr.Next ∷ [] in
       let b = a + n + 1 + 1 in
       let d : ℤ → Did = λ z. found (written m o (pos 1) z) m (λ x. Stops effect.Ran (code_at w locals loops b) x) in
-      let u : Task = code_at w locals loops (a + n + 1) in
+      let u : Task = code_with w held locals loops (a + n + 1) in
       let len : a + length (expr_code e 0 ++ tail) ≡ b = omega (arith, length-append (expr_code e 0) tail) in
       step_by g here m (assigns (variable.Scalar o) e at) (expr_code e 0 ++ tail) (found v m d) refl has
       (leads_value g e 0 tail here m d (λ z.
@@ -85,7 +85,7 @@ module _ (g : Setting) (w : Around) (callers : AreCallers g.code g.program w.end
       let tail = instr.Cell cell.Set k ∷ instr.Next ∷ [] in
       let b = a + n + 1 + 1 in
       let d : ℤ → Did = λ z. Stops effect.Ran (code_at w (slice_set locals k z) loops b) m in
-      let u : ℤ → Task = λ z. code_at w (slice_set locals k z) loops (a + n + 1) in
+      let u : ℤ → Task = λ z. code_with w held (slice_set locals k z) loops (a + n + 1) in
       let len : a + length (expr_code e 0 ++ tail) ≡ b = omega (arith, length-append (expr_code e 0) tail) in
       step_by g here m (assigns (variable.Local k) e at) (expr_code e 0 ++ tail) (found v m d) refl has
       (leads_value g e 0 tail here m d (λ z.
@@ -110,7 +110,7 @@ module _ (g : Setting) (w : Around) (callers : AreCallers g.code g.program w.end
       let tail = instr.Store reach.Element o ∷ instr.Next ∷ [] in
       let b = a + length I + length E + 1 + 1 in
       let d : ℤ → ℤ → Did = λ x z. found (written m o x z) m (λ n. Stops effect.Ran (code_at w locals loops b) n) in
-      let c : Task = code_at w locals loops (a + length I + length E + 1) in
+      let c : Task = code_with w held locals loops (a + length I + length E + 1) in
       let len : a + length (I ++ (E ++ tail)) ≡ b = omega (arith, length-append I (E ++ tail), length-append E tail) in
       step_by g here m (assigns (variable.Element o i) e at) (I ++ (E ++ tail)) (found u m (λ x. found v m (d x))) refl has
       (leads_value g i 0 (E ++ tail) here m (λ x. found v m (d x)) (λ x.

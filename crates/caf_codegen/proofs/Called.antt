@@ -58,10 +58,10 @@ use Rattle.caf_codegen.specs.ProgramCode.{sub_code}
 use Rattle.caf_codegen.specs.StmtCode.{StandsAt, actual_code, actuals_code, block, call_code, codes, sizes, texts_in}
 use Rattle.caf_codegen.proofs.Assigned.{before}
 use Rattle.caf_codegen.proofs.Both.{first_true, second_true}
-use Rattle.caf_codegen.proofs.Fits.{fits_called, fits_intent, fits_intents, is_block_simple}
+use Rattle.caf_codegen.proofs.Fits.{fits_called, fits_intent, fits_intents, is_block_fit}
 use Rattle.caf_codegen.proofs.Follows.{Continues, FrameEnd, OfCall, OfMain, OfShip, at_return, block_continues}
 use Rattle.caf_codegen.proofs.Places.{has_behind, has_front}
-use Rattle.caf_codegen.proofs.Related.{AreCallers, Around, CanPut, CanPutAll, HasIndex, IsEnd, Leads, Related, SameFor, Setting, code_at, found_ends, frame_at, leads_answer_is, leads_last, leads_on, leads_value_is, out_of, ran_same, step_by, target_of, trap_same}
+use Rattle.caf_codegen.proofs.Related.{AreCallers, Around, CanPut, CanPutAll, HasIndex, IsEnd, Leads, Related, SameFor, Setting, code_at, code_with, found_ends, found_map, frame_at, frame_with, leads_answer_is, leads_last, leads_on, leads_value_is, out_of, ran_same, step_by, target_of, trap_same}
 use Rattle.caf_codegen.proofs.Sized.{sized_block}
 
 -- what a subroutine has in the code
@@ -71,7 +71,7 @@ pub record IsThere (code : Listing) (p : Program) (f : SubR) (s : SubCode) : Typ
   pub texts : StandsAt code.texts first_text (texts_in (codes f.body))
   pub locals : s.locals ≡ length f.locals
   pub dummies : s.dummies ≡ copied_dummies f
-  pub simple : is_block_simple p.subs f.body ≡ true
+  pub simple : is_block_fit p.subs f.body ≡ true
 
 -- each subroutine stands in the code
 abbrev pub SubsPlaced : Listing → Program → Type 0
@@ -100,7 +100,7 @@ within_there : (o : Option Object) (i : ℤ) (x : Object) → o ≡ Some x → h
 within_there o i x e h = ap (λ o. within o i) e ∙ ap (λ (b : Bool). (let r : Answer = if b then Ok i else Err trap.Index in r)) h
 
 -- operands and places for copy out, as arguments bring them
-abbrev pushed : List Argument → List ℤ → List ℤ
+abbrev pub pushed : List Argument → List ℤ → List ℤ
 pushed [] stack = stack
 pushed (x ∷ xs) stack = pushed xs (x.value ∷ stack)
 
@@ -128,7 +128,7 @@ outs_all : (outs : List CopyTarget) (xs : List Argument) → outs_after outs xs 
 outs_all outs [] = sym (append-nil outs)
 outs_all outs (x ∷ xs) = outs_all (with_target outs x.out) xs ∙ with_targets outs x.out (out_targets xs)
 
-abbrev values : List Argument → List ℤ
+abbrev pub values : List Argument → List ℤ
 values = map (λ (x : Argument). x.value)
 
 abbrev turned : List ℤ → List ℤ → List ℤ
@@ -185,7 +185,7 @@ fit_one s d ds y ys own rest = record {
   puts = λ c. one_put s.objects d.intent y c (outs_from (suc c) ys) own (rest.puts (suc c));
 }
 
-arguments_fit : (ds : List DummyR) (l : List ActualR) (at : ℕ) (s : Seen) (xs : List Argument) → fits_intents ds l ≡ true → arguments_of l at s ≡ Ok xs → ArgumentsFit s.objects ds xs
+pub arguments_fit : (ds : List DummyR) (l : List ActualR) (at : ℕ) (s : Seen) (xs : List Argument) → fits_intents ds l ≡ true → arguments_of l at s ≡ Ok xs → ArgumentsFit s.objects ds xs
 arguments_fit [] [] at s xs h is = subst (λ xs. ArgumentsFit s.objects [] xs) (ok_same [] xs is) (record { count = refl; pairs = λ c. refl; puts = λ c. tt })
 arguments_fit [] (x ∷ l) at s xs h is = let f : false ≡ true = h in absurd (cc)
 arguments_fit (d ∷ ds) [] at s xs h is = let f : false ≡ true = h in absurd (cc)
@@ -196,23 +196,19 @@ arguments_fit (d ∷ ds) (x ∷ l) at s xs h is =
     (fit_one s d ds b.0 c.0 (argument_fits d.intent x at s b.0 (first_true (fits_intent d.intent x) (fits_intents ds l) h) b.1)
     (arguments_fit ds l (at + held_by_actual x) s c.0 (second_true (fits_intent d.intent x) (fits_intents ds l) h) c.1))
 
-found_map : {A B : Type 0} (r : Result A Trap) (f : A → B) (m : ImageMemory) (d : B → Did) → found (bind r (λ x. Ok (f x))) m d ≡ found r m (λ x. d (f x))
-found_map (Err t) f m d = refl
-found_map (Ok x) f m d = refl
-
-found_more : (r : Result Argument Trap) (more : Result (List Argument) Trap) (m : ImageMemory) (d : List Argument → Did) → found (bind r (λ x. bind more (λ xs. Ok (x ∷ xs)))) m d ≡ found r m (λ x. found more m (λ xs. d (x ∷ xs)))
+pub found_more : (r : Result Argument Trap) (more : Result (List Argument) Trap) (m : ImageMemory) (d : List Argument → Did) → found (bind r (λ x. bind more (λ xs. Ok (x ∷ xs)))) m d ≡ found r m (λ x. found more m (λ xs. d (x ∷ xs)))
 found_more (Err t) more m d = refl
 found_more (Ok x) (Err t) m d = refl
 found_more (Ok x) (Ok xs) m d = refl
 
-found_two : {B : Type 0} (r : Answer) (go : ℤ → Answer) (f : ℤ → ℤ → B) (m : ImageMemory) (d : B → Did) → found (bind r (λ x. bind (go x) (λ z. Ok (f x z)))) m d ≡ found r m (λ x. found (go x) m (λ z. d (f x z)))
+pub found_two : {B : Type 0} (r : Answer) (go : ℤ → Answer) (f : ℤ → ℤ → B) (m : ImageMemory) (d : B → Did) → found (bind r (λ x. bind (go x) (λ z. Ok (f x z)))) m d ≡ found r m (λ x. found (go x) m (λ z. d (f x z)))
 found_two (Err t) go f m d = refl
 found_two (Ok x) go f m d = found_map (go x) (f x) m d
 
-module _ (g : Setting) (w : Around) (locals : List ℤ) (loops : List Loop) (m : ImageMemory) where
+module _ (g : Setting) (w : Around) (held : List ℤ) (locals : List ℤ) (loops : List Loop) (m : ImageMemory) where
   -- before a call, with these operands and these places for copy out
   abbrev before_call : ℕ → List ℤ → List CopyTarget → Task
-  before_call a stack outs = record (code_at w locals loops a) { frame = record (frame_at locals loops) { stack = stack; outs = outs } }
+  before_call a stack outs = record (code_with w held locals loops a) { frame = record (frame_with held locals loops) { stack = stack; outs = outs } }
 
   abbrev seen_here : Seen
   seen_here = seen_by (before_call 0 [] []) m
@@ -297,7 +293,7 @@ reverse_turned : (xs : List ℤ) → reverse xs ≡ turned xs []
 reverse_turned xs = sym (append-nil (reverse xs)) ∙ sym (reverse_aux-eq xs []) ∙ reverse_onto xs []
 
 -- as many arguments as are taken
-taken : (xs : List Argument) (n : ℕ) (m : ImageMemory) (go : List ℤ → List ℤ → Did) → length xs ≡ n → on_arguments n (pushed xs []) m go ≡ go (values xs) []
+pub taken : (xs : List Argument) (n : ℕ) (m : ImageMemory) (go : List ℤ → List ℤ → Did) → length xs ≡ n → on_arguments n (pushed xs []) m go ≡ go (values xs) []
 taken xs n m go e =
     let vs = values xs in
     let is : pushed xs [] ≡ reverse vs = pushed_turned xs [] ∙ sym (reverse_turned vs) in
@@ -312,7 +308,7 @@ taken xs n m go e =
     whole s true h = ap (λ l. go (reverse (take (length s) s)) l) (drop-length s)
     whole s false h = let f : false ≡ true = h in absurd (cc)
 
-module _ (g : Setting) (placed : SubsPlaced g.code g.program) (w : Around) (callers : AreCallers g.code g.program w.end w.below w.calls) (locals : List ℤ) (loops : List Loop) (a : ℕ) (m : ImageMemory) (s : Todo) (rest : List Todo) where
+module _ (g : Setting) (placed : SubsPlaced g.code g.program) (w : Around) (callers : AreCallers g.code g.program w.end w.below w.calls) (held : List ℤ) (locals : List ℤ) (loops : List Loop) (a : ℕ) (m : ImageMemory) (s : Todo) (rest : List Todo) where
   -- the frame that called and the place of the call, when these dummies will be copied out
   abbrev around_call : ℕ → List TreeCopyOut → Around
   around_call b outs = record {
@@ -334,9 +330,9 @@ module _ (g : Setting) (placed : SubsPlaced g.code g.program) (w : Around) (call
 
   -- the call itself, where its arguments are on the stack
   call_does : (i : ℕ) (f : SubR) (x : SubCode) (b : ℕ) (xs : List Argument) (objects : List Object) → slice_get g.code.subs i ≡ Some x → IsThere g.code g.program f x → ArgumentsFit objects f.dummies xs
-      → does g.code g.clear (instr.Call i) (before_call g w locals loops m b (pushed xs []) (outs_after [] xs)) m ≡ call_did x b xs
+      → does g.code g.clear (instr.Call i) (before_call g w held locals loops m b (pushed xs []) (outs_after [] xs)) m ≡ call_did x b xs
   call_does i f x b xs objects at is fit =
-      let t = before_call g w locals loops m b (pushed xs []) (outs_after [] xs) in
+      let t = before_call g w held locals loops m b (pushed xs []) (outs_after [] xs) in
       let go : SubCode → List ℤ → List ℤ → Did = λ sub arguments left. if nat_le 200 (length w.calls) then Fails trap.Depth m else Stops effect.Ran (opens sub arguments left t) m in
       let count : length xs ≡ length x.dummies = fit.count ∙ sym (length-map f.dummies (λ (d : DummyR). not (is_in d.intent))) ∙ sym (ap length is.dummies) in
       let outs : paired 0 x.dummies (outs_after [] xs) ≡ map out_of (outs_from 0 xs) = ap (λ ds. paired 0 ds (outs_after [] xs)) is.dummies ∙ ap (paired 0 (copies f.dummies)) (outs_all [] xs) ∙ fit.pairs 0 in
@@ -345,9 +341,9 @@ module _ (g : Setting) (placed : SubsPlaced g.code g.program) (w : Around) (call
 
   -- the frame of the call on both sides
   opened_same : (f : SubR) (x : SubCode) (b : ℕ) (xs : List Argument) → IsThere g.code g.program f x → CanPutAll g.program.objects (outs_from 0 xs) → Continues g.code g.program w.end (b + 1) rest loops → (deep : Bool)
-      → SameFor g (code_at w locals loops a) m (given (if deep then Err trap.Depth else Ok (opened f xs)) (before w locals s rest m) (λ frame. goes_in frame (before w locals s rest m)))
+      → SameFor g (code_with w held locals loops a) m (given (if deep then Err trap.Depth else Ok (opened f xs)) (before w held locals s rest m) (λ frame. goes_in frame (before w held locals s rest m)))
       (if deep then Fails trap.Depth m else Stops effect.Ran (code_at (around_call b (outs_from 0 xs)) (values xs ++ replicate x.locals (pos 0)) [] x.address) m)
-  opened_same f x b xs is puts more true = trap_same g (code_at w locals loops a) (before w locals s rest m) trap.Depth
+  opened_same f x b xs is puts more true = trap_same g (code_with w held locals loops a) (before w held locals s rest m) trap.Depth
   opened_same f x b xs is puts more false =
       let outs = outs_from 0 xs in
       let inside = around_call b outs in
@@ -356,25 +352,25 @@ module _ (g : Setting) (placed : SubsPlaced g.code g.program) (w : Around) (call
       let ret = has_behind g.code.instrs x.address q statements (instr.Ret ∷ []) (omega (arith, sized_block f.body x.address is.first_text)) is.instrs in
       let there : Continues g.code g.program (OfCall outs) x.address (all_of f.body ++ (item.Returns outs ∷ [])) [] =
       block_continues g.laws g.code g.program (OfCall outs) f.body (item.Returns outs ∷ []) [] x.address q is.first_text is.simple refl (has_front g.code.instrs x.address statements _ is.instrs) is.texts (at_return q outs refl ret.0) in
-      subst (λ n. SameFor g (code_at w locals loops a) m (goes_in (opened f xs) (before w locals s rest m)) (Stops effect.Ran (code_at inside (values xs ++ replicate n (pos 0)) [] x.address) m)) (sym is.locals)
-      (ran_same g (code_at w locals loops a) m m inside (values xs ++ replicate (length f.locals) (pos 0)) (all_of f.body ++ (item.Returns outs ∷ [])) [] x.address (w.end, loops, refl, refl, puts, more, callers) there)
+      subst (λ n. SameFor g (code_with w held locals loops a) m (goes_in (opened f xs) (before w held locals s rest m)) (Stops effect.Ran (code_at inside (values xs ++ replicate n (pos 0)) [] x.address) m)) (sym is.locals)
+      (ran_same g (code_with w held locals loops a) m m inside (values xs ++ replicate (length f.locals) (pos 0)) (all_of f.body ++ (item.Returns outs ∷ [])) [] x.address (w.end, loops, refl, refl, puts, more, callers) there)
 
   called_same : (f : SubR) (x : SubCode) (b : ℕ) (r : Result (List Argument) Trap) → IsThere g.code g.program f x → ((xs : List Argument) → r ≡ Ok xs → CanPutAll g.program.objects (outs_from 0 xs)) → Continues g.code g.program w.end (b + 1) rest loops
-      → SameFor g (code_at w locals loops a) m (given (bind r (frame_of (Some f) (length w.below))) (before w locals s rest m) (λ frame. goes_in frame (before w locals s rest m))) (found r m (call_did x b))
-  called_same f x b (Err t) is puts more = trap_same g (code_at w locals loops a) (before w locals s rest m) t
+      → SameFor g (code_with w held locals loops a) m (given (bind r (frame_of (Some f) (length w.below))) (before w held locals s rest m) (λ frame. goes_in frame (before w held locals s rest m))) (found r m (call_did x b))
+  called_same f x b (Err t) is puts more = trap_same g (code_with w held locals loops a) (before w held locals s rest m) t
   called_same f x b (Ok xs) is puts more =
-      subst (λ n. SameFor g (code_at w locals loops a) m (given (if nat_le 200 n then Err trap.Depth else Ok (opened f xs)) (before w locals s rest m) (λ frame. goes_in frame (before w locals s rest m))) (call_did x b xs)) (sym (same_depth g.code g.program w.end w.below w.calls callers))
+      subst (λ n. SameFor g (code_with w held locals loops a) m (given (if nat_le 200 n then Err trap.Depth else Ok (opened f xs)) (before w held locals s rest m) (λ frame. goes_in frame (before w held locals s rest m))) (call_did x b xs)) (sym (same_depth g.code g.program w.end w.below w.calls callers))
       (opened_same f x b xs is (puts xs refl) more (nat_le 200 (length w.calls)))
 
   pub call_steps : m.objects ≡ g.program.objects → (i : ℕ) (actuals : List ActualR) → fits_called (slice_get g.program.subs i) actuals ≡ true → HasAt g.code.instrs a (call_code i actuals) → Continues g.code g.program w.end (a + length (call_code i actuals)) rest loops
-      → SameStep g.code (Related g.code g.program) (given (called (slice_get g.program.subs i) actuals (length w.below) (seen_by (code_at w locals loops a) m)) (before w locals s rest m) (λ frame. goes_in frame (before w locals s rest m))) (runs g.code g.clear (code_at w locals loops a) m)
+      → SameStep g.code (Related g.code g.program) (given (called (slice_get g.program.subs i) actuals (length w.below) (seen_by (code_with w held locals loops a) m)) (before w held locals s rest m) (λ frame. goes_in frame (before w held locals s rest m))) (runs g.code g.clear (code_with w held locals loops a) m)
   call_steps known i actuals fits has more = go (slice_get g.program.subs i) refl fits
     where
       go : (o : Option SubR) → slice_get g.program.subs i ≡ o → fits_called o actuals ≡ true
-          → SameStep g.code (Related g.code g.program) (given (called o actuals (length w.below) (seen_by (code_at w locals loops a) m)) (before w locals s rest m) (λ frame. goes_in frame (before w locals s rest m))) (runs g.code g.clear (code_at w locals loops a) m)
+          → SameStep g.code (Related g.code g.program) (given (called o actuals (length w.below) (seen_by (code_with w held locals loops a) m)) (before w held locals s rest m) (λ frame. goes_in frame (before w held locals s rest m))) (runs g.code g.clear (code_with w held locals loops a) m)
       go None e h = let f : false ≡ true = h in absurd (cc)
       go (Some f) e h =
-          let here = code_at w locals loops a in
+          let here = code_with w held locals loops a in
           let seen = seen_by here m in
           let x = placed i f e in
           let b = a + length (actuals_code actuals 0) in
@@ -382,9 +378,9 @@ module _ (g : Setting) (placed : SubsPlaced g.code g.program) (w : Around) (call
           let behind : a + length (call_code i actuals) ≡ b + 1 = omega (arith, length-append (actuals_code actuals 0) (instr.Call i ∷ [])) in
           let fit : (xs : List Argument) → r ≡ Ok xs → ArgumentsFit seen.objects f.dummies xs = λ xs is. arguments_fit f.dummies actuals 0 seen xs h is in
           step_by g here m _ (call_code i actuals) (found r m (call_did x.0 b)) refl has
-          (actuals_lead g w locals loops m actuals 0 a [] [] (instr.Call i ∷ []) (call_did x.0 b) (λ xs c is e'.
-          subst (λ c. Leads g (instr.Call i ∷ []) (call_did x.0 b xs) (before_call g w locals loops m c (pushed xs []) (outs_after [] xs)) m) (sym e')
-          (leads_last g (instr.Call i) (before_call g w locals loops m b (pushed xs []) (outs_after [] xs)) m (call_did x.0 b xs) (call_does i f x.0 b xs seen.objects x.1 x.2 (fit xs is)))))
+          (actuals_lead g w held locals loops m actuals 0 a [] [] (instr.Call i ∷ []) (call_did x.0 b) (λ xs c is e'.
+          subst (λ c. Leads g (instr.Call i ∷ []) (call_did x.0 b xs) (before_call g w held locals loops m c (pushed xs []) (outs_after [] xs)) m) (sym e')
+          (leads_last g (instr.Call i) (before_call g w held locals loops m b (pushed xs []) (outs_after [] xs)) m (call_did x.0 b xs) (call_does i f x.0 b xs seen.objects x.1 x.2 (fit xs is)))))
           (found_ends r m (call_did x.0 b) (λ xs. call_ends x.0 b xs))
           (called_same f x.0 b r x.2 (λ xs is. subst (λ os. CanPutAll os (outs_from 0 xs)) known ((fit xs is).puts 0)) (subst (λ n. Continues g.code g.program w.end n rest loops) behind more))
 
@@ -424,7 +420,7 @@ copies_same objects (x ∷ outs) cells v loops go known puts =
 -- the end of a called subroutine
 pub return_steps : (g : Setting) (event : Option EventAt) (below : List TreeFrame) (calls : List OpenCall) (outs : List TreeCopyOut) (locals : List ℤ) (a : ℕ) (m : ImageMemory) → AreCallers g.code g.program (OfCall outs) below calls → m.objects ≡ g.program.objects
     → slice_get g.code.instrs a ≡ Some instr.Ret → (let w : Around = record { below = below; calls = calls; end = OfCall outs; done = event } in
-    SameStep g.code (Related g.code g.program) (returns_to below outs (before w locals (item.Returns outs) [] m)) (runs g.code g.clear (code_at w locals [] a) m))
+    SameStep g.code (Related g.code g.program) (returns_to below outs (before w [] locals (item.Returns outs) [] m)) (runs g.code g.clear (code_at w locals [] a) m))
 return_steps g event [] [] outs locals a m callers known at = absurd callers
 return_steps g event [] (c ∷ calls) outs locals a m callers known at = absurd callers
 return_steps g event (f ∷ below) [] outs locals a m callers known at = absurd callers

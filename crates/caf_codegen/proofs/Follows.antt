@@ -15,13 +15,16 @@ use Rattle.caf_code.specs.declared.instr.Instr.{Instr}
 use Rattle.caf_code.specs.declared.instr.Instr.TheVariants as instr
 use Rattle.caf_code.specs.declared.listing.Listing.{Listing}
 use Rattle.caf_code.specs.declared.task.Loop.{Loop}
+use Rattle.caf_exprgen.specs.ExprCode.{joined}
 use Rattle.caf_exprgen.specs.Placed.{HasAt}
 use Rattle.caf_exprgen.specs.Words.{CodesLeaveValues}
-use Rattle.caf_codegen.proofs.Fits.{is_block_simple, is_simple}
+use Rattle.caf_codegen.proofs.Fits.{is_block_fit, is_fit}
 use Rattle.caf_codegen.specs.StmtCode.{StandsAt, block, codes, sizes, stmt_code, texts_in, turn_code}
 use Rattle.caf_codegen.proofs.Places.{has_behind, has_front, stands_back, stands_front}
 use Rattle.caf_codegen.proofs.Sized.{sized}
-use Rattle.caf_codegen.proofs.Still.{IsStill, stmt_still}
+use Rattle.caf_codegen.proofs.Parts.{pieces_of}
+use Rattle.caf_codegen.proofs.Pieces.{IsStill}
+use Rattle.caf_codegen.proofs.Still.{stmt_still}
 use Rattle.caf_codegen.proofs.Both.{first_true, second_true}
 
 -- no `go` stands at the address
@@ -48,9 +51,9 @@ pub data Continues (code : Listing) (p : Program) (end : FrameEnd) : ℕ → Lis
   at_close : (a : ℕ) (rest : List Todo) (loops : List Loop) → slice_get code.instrs a ≡ Some instr.Close → Continues code p end (a + 1) rest loops → Continues code p end a (item.Closes ∷ rest) loops
   at_ret : (a : ℕ) → IsShip end → slice_get code.instrs a ≡ Some instr.Ret → Continues code p end a (item.Ends ∷ []) []
   at_return : (a : ℕ) (outs : List CopyOut) → end ≡ OfCall outs → slice_get code.instrs a ≡ Some instr.Ret → Continues code p end a (item.Returns outs ∷ []) []
-  at_statement : (a k : ℕ) (s : StmtR) (rest : List Todo) (loops : List Loop) → is_simple p.subs s ≡ true → HasAt code.instrs a ((stmt_code s).code a k) → StandsAt code.texts k (stmt_code s).texts
+  at_statement : (a k : ℕ) (s : StmtR) (rest : List Todo) (loops : List Loop) → is_fit p.subs s ≡ true → HasAt code.instrs a ((stmt_code s).code a k) → StandsAt code.texts k (stmt_code s).texts
       → Continues code p end (a + (stmt_code s).size) rest loops → Continues code p end a (item.Does s ∷ rest) loops
-  at_turn : (a top k : ℕ) (v : LoopVariableR) (step : ℤ) (n : ℕ) (body : List StmtR) (rest : List Todo) (loops : List Loop) → is_block_simple p.subs body ≡ true
+  at_turn : (a top k : ℕ) (v : LoopVariableR) (step : ℤ) (n : ℕ) (body : List StmtR) (rest : List Todo) (loops : List Loop) → is_block_fit p.subs body ≡ true
       → HasAt code.instrs a (turn_code v top) → HasAt code.instrs top (block (codes body) top k) → StandsAt code.texts k (texts_in (codes body)) → a ≡ top + sizes (codes body)
       → Continues code p end (a + 5) rest loops → Continues code p end a (item.Turns v step n body ∷ rest) (record { iterations = n; step = step } ∷ loops)
   jumps : (a b : ℕ) (todo : List Todo) (loops : List Loop) → slice_get code.instrs a ≡ Some (instr.Go b) → a < b → Continues code p end b todo loops → Continues code p end a todo loops
@@ -60,7 +63,15 @@ pub data Continues (code : Listing) (p : Program) (end : FrameEnd) : ℕ → Lis
 abbrev pub Settles : Listing → Program → FrameEnd → ℕ → List Todo → List Loop → Type 0
 Settles code p end a todo loops = Continues code p end a todo loops × IsSettledAt code a
 
-settled_same : (instrs : List Instr) (n a : ℕ) → go_of (slice_get instrs a) ≡ None → settled instrs n a ≡ a
+-- Where a task stands that holds these values: between two statements, where it holds none, or within a statement, where it
+-- has done as many reads as it holds values.
+pub data Stands (code : Listing) (p : Program) (end : FrameEnd) : List ℤ → ℕ → List Todo → List Loop → Type 0 where
+  between : (a : ℕ) (todo : List Todo) (loops : List Loop) → Settles code p end a todo loops → Stands code p end [] a todo loops
+  within : (held : List ℤ) (a start k : ℕ) (s : StmtR) (rest : List Todo) (loops : List Loop) (done left : List (List Instr)) → pieces_of s ≡ done ++ left → length done ≡ length held → a ≡ start + length (joined done)
+      → is_fit p.subs s ≡ true → HasAt code.instrs start ((stmt_code s).code start k) → StandsAt code.texts k (stmt_code s).texts → Continues code p end (start + (stmt_code s).size) rest loops
+      → Stands code p end held a (item.Does s ∷ rest) loops
+
+pub settled_same : (instrs : List Instr) (n a : ℕ) → go_of (slice_get instrs a) ≡ None → settled instrs n a ≡ a
 settled_same instrs zero a h = refl
 settled_same instrs (suc n) a h = ap (λ o. followed o a (settled instrs n)) h
 
@@ -95,7 +106,7 @@ module _ (laws : CodesLeaveValues) (code : Listing) (p : Program) (end : FrameEn
       subst (λ d. Settles code p end d todo loops) e (c, h)
 
   -- a block, and then the rest
-  pub block_continues : (l : List StmtR) (rest : List Todo) (loops : List Loop) (a b k : ℕ) → is_block_simple p.subs l ≡ true → b ≡ a + sizes (codes l) → HasAt code.instrs a (block (codes l) a k) → StandsAt code.texts k (texts_in (codes l))
+  pub block_continues : (l : List StmtR) (rest : List Todo) (loops : List Loop) (a b k : ℕ) → is_block_fit p.subs l ≡ true → b ≡ a + sizes (codes l) → HasAt code.instrs a (block (codes l) a k) → StandsAt code.texts k (texts_in (codes l))
       → Continues code p end b rest loops → Continues code p end a (all_of l ++ rest) loops
   block_continues [] rest loops a b k simple e has texts c = let e' : b ≡ a = omega arith in subst (λ n. Continues code p end n rest loops) e' c
   block_continues (s ∷ l) rest loops a b k simple e has texts c =
@@ -103,5 +114,5 @@ module _ (laws : CodesLeaveValues) (code : Listing) (p : Program) (end : FrameEn
       let others = block (codes l) (a + x.size) (k + length x.texts) in
       let behind : a + x.size ≡ a + length (x.code a k) = omega (arith, sized s a k) in
       let back = has_behind code.instrs a (a + x.size) (x.code a k) others behind has in
-      at_statement a k s (all_of l ++ rest) loops (first_true (is_simple p.subs s) (is_block_simple p.subs l) simple) (has_front code.instrs a (x.code a k) others has) (stands_front code.texts k x.texts (texts_in (codes l)) texts)
-      (block_continues l rest loops (a + x.size) b (k + length x.texts) (second_true (is_simple p.subs s) (is_block_simple p.subs l) simple) (omega arith) back (stands_back code.texts k x.texts (texts_in (codes l)) texts) c)
+      at_statement a k s (all_of l ++ rest) loops (first_true (is_fit p.subs s) (is_block_fit p.subs l) simple) (has_front code.instrs a (x.code a k) others has) (stands_front code.texts k x.texts (texts_in (codes l)) texts)
+      (block_continues l rest loops (a + x.size) b (k + length x.texts) (second_true (is_fit p.subs s) (is_block_fit p.subs l) simple) (omega arith) back (stands_back code.texts k x.texts (texts_in (codes l)) texts) c)

@@ -5,23 +5,22 @@ use Rattle.std.proofs.Math.Seq.{set-append_seam}
 use Rattle.caf_program.specs.declared.expr.ExprR.{ExprR}
 use Rattle.caf_program.specs.declared.stmt.LoopVariableR.{LoopVariableR}
 use Rattle.caf_program.specs.declared.stmt.StmtR.{StmtR}
-use Rattle.caf_program.specs.declared.stmt.StmtR.TheOpen.{StmtR-F}
-use Rattle.caf_program.specs.declared.stmt.StmtR.TheFolds.{fold-roll-StmtR}
-use Rattle.caf_program.specs.declared.stmt.StmtR.TheVariants.{Do, If, While, rolls-Do, rolls-If, rolls-While}
+use Rattle.caf_program.specs.declared.stmt.StmtR.TheVariants.{Do, If, While, outs-Do, outs-If, outs-While}
 use Rattle.caf_code.specs.declared.instr.Instr.{Instr}
 use Rattle.caf_code.specs.declared.instr.Instr.TheVariants as instr
 use Rattle.caf_exprgen.specs.ExprCode.{expr_code}
-use Rattle.caf_codegen.specs.StmtCode.{StmtCode, block, bounds_code, codes, do_code, guarded, if_code, sizes, stmt_code, stmt_layer, store_of, texts_in, turn_code, while_code}
+use Rattle.caf_codegen.specs.StmtCode.{block, bounds_code, codes, do_code, guarded, if_code, last_code, last_layer, sizes, stmt_code, store_of, texts_in, turn_code, while_code}
+use Rattle.caf_codegen.proofs.Parts.{coded_blocks}
 use Rattle.caf_codegen.proofs.Sized.{sized, sized_block}
 
-pub code_If : (line : ℕ) (e : ExprR) (x y : List StmtR) → stmt_code (If line e x y) ≡ if_code (expr_code e 0) (codes x) (codes y)
-code_If line e x y = ap stmt_code (sym (rolls-If line e x y)) ∙ fold-roll-StmtR StmtCode stmt_layer (StmtR-F.If line e x y)
+pub code_If : (start line : ℕ) (e : ExprR) (x y : List StmtR) → last_code start (If line e x y) ≡ if_code (expr_code e 0) (codes x) (codes y)
+code_If start line e x y = ap (λ l. last_layer start (coded_blocks l)) (outs-If line e x y)
 
-code_While : (line : ℕ) (e : ExprR) (x : List StmtR) → stmt_code (While line e x) ≡ while_code (expr_code e 0) (codes x)
-code_While line e x = ap stmt_code (sym (rolls-While line e x)) ∙ fold-roll-StmtR StmtCode stmt_layer (StmtR-F.While line e x)
+code_While : (start line : ℕ) (e : ExprR) (x : List StmtR) → last_code start (While line e x) ≡ while_code start (expr_code e 0) (codes x)
+code_While start line e x = ap (λ l. last_layer start (coded_blocks l)) (outs-While line e x)
 
-code_Do : (line : ℕ) (v : LoopVariableR) (e1 e2 e3 : ExprR) (x : List StmtR) → stmt_code (Do line v e1 e2 e3 x) ≡ do_code v (bounds_code e1 e2 e3) (codes x)
-code_Do line v e1 e2 e3 x = ap stmt_code (sym (rolls-Do line v e1 e2 e3 x)) ∙ fold-roll-StmtR StmtCode stmt_layer (StmtR-F.Do line v e1 e2 e3 x)
+code_Do : (start line : ℕ) (v : LoopVariableR) (e1 e2 e3 : ExprR) (x : List StmtR) → last_code start (Do line v e1 e2 e3 x) ≡ do_code v (bounds_code e1 e2 e3) (codes x)
+code_Do start line v e1 e2 e3 x = ap (λ l. last_layer start (coded_blocks l)) (outs-Do line v e1 e2 e3 x)
 
 -- an instruction in the place of another
 filled : (base bx tail c1 c2 c3 : List Instr) (u i : Instr) (n : ℕ) → c1 ≡ base ++ u ∷ [] → c2 ≡ c1 ++ bx → c3 ≡ c2 ++ tail → n ≡ length base → slice_set c3 n i ≡ base ++ i ∷ (bx ++ tail)
@@ -46,9 +45,9 @@ pub guarded_go : (x : List StmtR) (base c1 c2 : List Instr) (u : Instr) (go k : 
 guarded_go x base c1 c2 u go k e1 e2 at = omega (arith, at, ap length e1, length-append base (u ∷ []), ap length e2, length-append c1 (block (codes x) (length c1) k), sized_block x (length c1) k)
 
 -- a choice
-pub if_filled : (line : ℕ) (e : ExprR) (x y : List StmtR) (base c1 c2 c3 : List Instr) (go end k j : ℕ) → c1 ≡ base ++ expr_code e 0 → c2 ≡ c1 ++ guarded (codes x) 0 (length c1) k → go ≡ length c1 + 1 + sizes (codes x)
-    → c3 ≡ c2 ++ block (codes y) (length c2) j → j ≡ k + length (texts_in (codes x)) → end ≡ length c3 → slice_set c3 go (instr.Go end) ≡ base ++ (stmt_code (If line e x y)).code (length base) k
-if_filled line e x y base c1 c2 c3 go end k j e1 e2 at e3 texts len =
+pub if_filled : (start line : ℕ) (e : ExprR) (x y : List StmtR) (base c1 c2 c3 : List Instr) (go end k j : ℕ) → c1 ≡ base ++ expr_code e 0 → c2 ≡ c1 ++ guarded (codes x) 0 (length c1) k → go ≡ length c1 + 1 + sizes (codes x)
+    → c3 ≡ c2 ++ block (codes y) (length c2) j → j ≡ k + length (texts_in (codes x)) → end ≡ length c3 → slice_set c3 go (instr.Go end) ≡ base ++ (last_code start (If line e x y)).code (length base) k
+if_filled start line e x y base c1 c2 c3 go end k j e1 e2 at e3 texts len =
     let X = codes x in
     let Y = codes y in
     let E = expr_code e 0 in
@@ -69,15 +68,15 @@ if_filled line e x y base c1 c2 c3 go end k j e1 e2 at e3 texts len =
     let all : c3 ≡ front ++ instr.Go 0 ∷ by = f3 ∙ ap (λ l. l ++ by) (f2 ∙ ap (λ l. l ++ guarded X 0 (a + length E) k) e1) ∙ flat in
     let back : front ++ instr.Go end ∷ by ≡ base ++ (E ++ test ∷ (bx ++ instr.Go end ∷ by)) = simp append_assoc in
     ap (λ n. slice_set c3 n (instr.Go end)) go_at ∙ ap (λ l. slice_set l (length front) (instr.Go end)) all ∙ set-append_seam front (instr.Go 0) by (instr.Go end)
-    ∙ back ∙ ap (λ n. base ++ (E ++ test ∷ (bx ++ instr.Go n ∷ by))) to ∙ ap (λ c. base ++ c.code a k) (sym (code_If line e x y))
+    ∙ back ∙ ap (λ n. base ++ (E ++ test ∷ (bx ++ instr.Go n ∷ by))) to ∙ ap (λ c. base ++ c.code a k) (sym (code_If start line e x y))
 
 -- a loop by a test
-pub while_joined : (line : ℕ) (e : ExprR) (x : List StmtR) (base c1 c2 : List Instr) (start k : ℕ) → start ≡ length base → c1 ≡ base ++ expr_code e 0 → c2 ≡ c1 ++ guarded (codes x) start (length c1) k → c2 ≡ base ++ (stmt_code (While line e x)).code (length base) k
-while_joined line e x base c1 c2 start k at e1 e2 =
+pub while_joined : (line : ℕ) (e : ExprR) (x : List StmtR) (base c1 c2 : List Instr) (start k : ℕ) → c1 ≡ base ++ expr_code e 0 → c2 ≡ c1 ++ guarded (codes x) start (length c1) k → c2 ≡ base ++ (last_code start (While line e x)).code (length base) k
+while_joined line e x base c1 c2 start k e1 e2 =
     let E = expr_code e 0 in
     let l1 : length c1 ≡ length base + length E = omega (arith, ap length e1, length-append base E) in
-    e2 ∙ ap (λ m. c1 ++ guarded (codes x) start m k) l1 ∙ ap (λ m. c1 ++ guarded (codes x) m (length base + length E) k) at ∙ ap (λ l. l ++ guarded (codes x) (length base) (length base + length E) k) e1
-    ∙ append_assoc base E (guarded (codes x) (length base) (length base + length E) k) ∙ ap (λ c. base ++ c.code (length base) k) (sym (code_While line e x))
+    e2 ∙ ap (λ m. c1 ++ guarded (codes x) start m k) l1 ∙ ap (λ l. l ++ guarded (codes x) start (length base + length E) k) e1
+    ∙ append_assoc base E (guarded (codes x) start (length base + length E) k) ∙ ap (λ c. base ++ c.code (length base) k) (sym (code_While start line e x))
 
 -- a loop behind its numbers
 pub loop_filled : (x : List StmtR) (v : LoopVariableR) (base c1 c2 c3 c4 c5 : List Instr) (u i : Instr) (n top out k : ℕ) → c1 ≡ base ++ instr.Loop ∷ [] → i ≡ store_of v → c2 ≡ c1 ++ i ∷ [] → n ≡ length c2 → c3 ≡ c2 ++ u ∷ [] → top ≡ length c3
@@ -97,15 +96,15 @@ loop_filled x v base c1 c2 c3 c4 c5 u i n top out k e1 stored e2 at e3 there e4 
     filled c2 ours (turn_code v t) c3 c4 c5 u (instr.Enter out) n e3 f4 f5 at ∙ ap (λ l. l ++ instr.Enter out ∷ (ours ++ turn_code v t)) head
     ∙ append_assoc base (instr.Loop ∷ store_of v ∷ []) (instr.Enter out ∷ (ours ++ turn_code v t)) ∙ ap (λ m. base ++ (instr.Loop ∷ store_of v ∷ instr.Enter m ∷ (ours ++ turn_code v t))) to
 
-pub do_joined : (line : ℕ) (v : LoopVariableR) (e1 e2 e3 : ExprR) (x : List StmtR) (base c1 c2 : List Instr) (k : ℕ) → c1 ≡ base ++ bounds_code e1 e2 e3 → c2 ≡ c1 ++ (do_code v [] (codes x)).code (length c1) k
-    → c2 ≡ base ++ (stmt_code (Do line v e1 e2 e3 x)).code (length base) k
-do_joined line v e1 e2 e3 x base c1 c2 k f1 f2 =
+pub do_joined : (start line : ℕ) (v : LoopVariableR) (e1 e2 e3 : ExprR) (x : List StmtR) (base c1 c2 : List Instr) (k : ℕ) → c1 ≡ base ++ bounds_code e1 e2 e3 → c2 ≡ c1 ++ (do_code v [] (codes x)).code (length c1) k
+    → c2 ≡ base ++ (last_code start (Do line v e1 e2 e3 x)).code (length base) k
+do_joined start line v e1 e2 e3 x base c1 c2 k f1 f2 =
     let B = bounds_code e1 e2 e3 in
     let X = codes x in
     let top = length base + length B + 3 in
     let l1 : length c1 + 0 + 3 ≡ top = omega (arith, ap length f1, length-append base B) in
     let tail = instr.Loop ∷ store_of v ∷ instr.Enter (top + sizes X + 5) ∷ (block X top k ++ turn_code v top) in
-    f2 ∙ ap (λ m. c1 ++ (instr.Loop ∷ store_of v ∷ instr.Enter (m + sizes X + 5) ∷ (block X m k ++ turn_code v m))) l1 ∙ ap (λ l. l ++ tail) f1 ∙ append_assoc base B tail ∙ ap (λ c. base ++ c.code (length base) k) (sym (code_Do line v e1 e2 e3 x))
+    f2 ∙ ap (λ m. c1 ++ (instr.Loop ∷ store_of v ∷ instr.Enter (m + sizes X + 5) ∷ (block X m k ++ turn_code v m))) l1 ∙ ap (λ l. l ++ tail) f1 ∙ append_assoc base B tail ∙ ap (λ c. base ++ c.code (length base) k) (sym (code_Do start line v e1 e2 e3 x))
 
 -- one more statement of a block
 pub block_step : (out next : List Instr) (s : StmtR) (rest : List StmtR) (k j : ℕ) → next ≡ out ++ (stmt_code s).code (length out) k → j ≡ k + length (stmt_code s).texts

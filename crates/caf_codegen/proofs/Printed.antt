@@ -29,12 +29,12 @@ use Rattle.caf_codegen.specs.StmtCode.{StandsAt, part_texts, parts_code}
 use Rattle.caf_codegen.proofs.Assigned.{before}
 use Rattle.caf_codegen.proofs.Follows.{Continues}
 use Rattle.caf_codegen.proofs.Places.{stands_back}
-use Rattle.caf_codegen.proofs.Related.{Around, AreCallers, IsEnd, Leads, Related, Setting, SameFor, code_at, found_ends, leads_last, leads_on, leads_value, ran_same, step_by, trap_same}
+use Rattle.caf_codegen.proofs.Related.{AreCallers, Around, IsEnd, Leads, Related, SameFor, Setting, code_at, code_with, found_ends, leads_last, leads_on, leads_value, ran_same, step_by, trap_same}
 
-module _ (g : Setting) (w : Around) (locals : List ℤ) (loops : List Loop) (m : ImageMemory) where
+module _ (g : Setting) (w : Around) (held : List ℤ) (locals : List ℤ) (loops : List Loop) (m : ImageMemory) where
   -- while a line is made
   abbrev in_line : ℕ → List (List ℕ) → Task
-  in_line a parts = record (code_at w locals loops a) { parts = parts }
+  in_line a parts = record (code_with w held locals loops a) { parts = parts }
 
   abbrev seen_here : Seen
   seen_here = seen_by (in_line 0 []) m
@@ -103,19 +103,19 @@ module _ (g : Setting) (w : Around) (locals : List ℤ) (loops : List Loop) (m :
   lined_ends false y z h i = i
 
   line_same : (callers : AreCallers g.code g.program w.end w.below w.calls) (a b : ℕ) (s : Todo) (rest : List Todo) → Continues g.code g.program w.end b rest loops → (xs : List (List ℕ)) (r : Bool)
-      → SameFor g (code_at w locals loops a) m (given (if r then Ok (with_line m (line_of xs)) else Err trap.Output) (before w locals s rest m) (λ n. ran n (before w locals s rest m)))
+      → SameFor g (code_with w held locals loops a) m (given (if r then Ok (with_line m (line_of xs)) else Err trap.Output) (before w held locals s rest m) (λ n. ran n (before w held locals s rest m)))
       (if r then Stops effect.Ran (code_at w locals loops b) (with_line m (line_of xs)) else Fails trap.Output m)
-  line_same callers a b s rest more xs true = ran_same g (code_at w locals loops a) m (with_line m (line_of xs)) w locals rest loops b callers more
-  line_same callers a b s rest more xs false = trap_same g (code_at w locals loops a) (before w locals s rest m) trap.Output
+  line_same callers a b s rest more xs true = ran_same g (code_with w held locals loops a) m (with_line m (line_of xs)) w locals rest loops b callers more
+  line_same callers a b s rest more xs false = trap_same g (code_with w held locals loops a) (before w held locals s rest m) trap.Output
 
   print_same : (callers : AreCallers g.code g.program w.end w.below w.calls) (a b : ℕ) (s : Todo) (rest : List Todo) → Continues g.code g.program w.end b rest loops → (r : Result (List (List ℕ)) Trap)
-      → SameFor g (code_at w locals loops a) m (given (bind (bind r (λ xs. Ok (line_of xs))) (added m)) (before w locals s rest m) (λ n. ran n (before w locals s rest m))) (of_texts b [] r)
-  print_same callers a b s rest more (Err t) = trap_same g (code_at w locals loops a) (before w locals s rest m) t
+      → SameFor g (code_with w held locals loops a) m (given (bind (bind r (λ xs. Ok (line_of xs))) (added m)) (before w held locals s rest m) (λ n. ran n (before w held locals s rest m))) (of_texts b [] r)
+  print_same callers a b s rest more (Err t) = trap_same g (code_with w held locals loops a) (before w held locals s rest m) t
   print_same callers a b s rest more (Ok xs) = line_same callers a b s rest more xs (has_room m (line_of xs))
 
   pub print_steps : (callers : AreCallers g.code g.program w.end w.below w.calls) (a k : ℕ) (s : Todo) (rest : List Todo) (l : List PrintR) → StandsAt g.code.texts k (part_texts l) → HasAt g.code.instrs a (parts_code l 0 k) → Continues g.code g.program w.end (a + length (parts_code l 0 k)) rest loops
-      → SameStep g.code (Related g.code g.program) (given (printed l (seen_by (code_at w locals loops a) m) m) (before w locals s rest m) (λ n. ran n (before w locals s rest m))) (runs g.code g.clear (code_at w locals loops a) m)
+      → SameStep g.code (Related g.code g.program) (given (printed l (seen_by (code_with w held locals loops a) m) m) (before w held locals s rest m) (λ n. ran n (before w held locals s rest m))) (runs g.code g.clear (code_with w held locals loops a) m)
   print_steps callers a k s rest l texts has more =
       let b = a + length (parts_code l 0 k) in
       let ts = texts_of l 0 seen_here in
-      step_by g (code_at w locals loops a) m _ (parts_code l 0 k) (of_texts b [] ts) refl has (parts_lead l 0 k a b [] texts refl) (found_ends ts m (λ xs. lined b xs) (λ xs. lined_ends (has_room m (line_of xs)) _ _ tt tt)) (print_same callers a b s rest more ts)
+      step_by g (code_with w held locals loops a) m _ (parts_code l 0 k) (of_texts b [] ts) refl has (parts_lead l 0 k a b [] texts refl) (found_ends ts m (λ xs. lined b xs) (λ xs. lined_ends (has_room m (line_of xs)) _ _ tt tt)) (print_same callers a b s rest more ts)

@@ -7,7 +7,11 @@ use Rattle.caf_base.specs.ImageMemory.{ImageMemory}
 use Rattle.caf_base.specs.declared.effect.Effect.TheVariants as effect
 use Rattle.caf_base.specs.declared.fence.FenceClear.{FenceClear}
 use Rattle.caf_base.specs.declared.operation.EventAt.{EventAt}
+use Rattle.caf_base.specs.declared.operation.OpSpec.{OpSpec}
+use Rattle.caf_base.specs.declared.team.Team.{Team}
+use Rattle.caf_base.specs.Places.{bind}
 use Rattle.caf_base.specs.declared.trap.Trap.{Trap}
+use Rattle.caf_program.specs.Seen.{Seen}
 use Rattle.caf_program.specs.Value.{value_at}
 use Rattle.caf_program.specs.declared.expr.ExprR.{ExprR}
 use Rattle.caf_treestep.specs.Step.{At, given}
@@ -15,7 +19,7 @@ use Rattle.caf_treestep.specs.declared.task.Frame.{Frame as TreeFrame}
 use Rattle.caf_treestep.specs.declared.task.Task.{Task as TreeTask}
 use Rattle.caf_treestep.specs.declared.todo.Todo.{Todo}
 use Rattle.caf_code.specs.Did.{Did, Goes, Stops, Blocks, Fails, Lacks, answers, found}
-use Rattle.caf_code.specs.Step.{does, does_at, ended, exec, runs, settled, then_run, unless_waiting}
+use Rattle.caf_code.specs.Step.{does, does_at, ended, exec, runs, settled, settles, then_run, unless_waiting}
 use Rattle.caf_code.specs.Task.{Frame, OpenCall, Task, past}
 use Rattle.caf_base.specs.Element.{has_index}
 use Rattle.caf_base.specs.declared.object.Object.{Object}
@@ -29,12 +33,13 @@ use Rattle.caf_code.specs.declared.task.CopyTarget.TheVariants as copied
 use Rattle.caf_code.specs.declared.instr.Instr.{Instr}
 use Rattle.caf_code.specs.declared.listing.Listing.{Listing}
 use Rattle.caf_code.specs.declared.task.Loop.{Loop}
+use Rattle.caf_exprgen.specs.Asks.{LeavesThis}
 use Rattle.caf_exprgen.specs.ExprCode.{expr_code}
 use Rattle.caf_exprgen.specs.Leaves.{seen_by}
 use Rattle.caf_exprgen.specs.Placed.{HasAt}
 use Rattle.caf_exprgen.specs.Words.{CodesLeaveValues}
 use Rattle.caf_codegen.specs.Agreement.{SameStep}
-use Rattle.caf_codegen.proofs.Follows.{Continues, FrameEnd, OfCall, OfMain, OfShip, Settles, settle}
+use Rattle.caf_codegen.proofs.Follows.{Continues, FrameEnd, OfCall, OfMain, OfShip, Stands, between, settle}
 use Rattle.caf_codegen.proofs.Places.{has_back, has_front, has_length}
 
 -- what a plain statement leaves of a task over trees and of one of the code: the open calls, the end of the frame, and
@@ -45,17 +50,27 @@ pub record Around : Type 0 where
   pub end : FrameEnd
   pub done : Option EventAt
 
--- a task over trees between two statements
+-- a task over trees that holds these values
+abbrev pub tree_with : Around → List ℤ → List ℤ → List Todo → TreeTask
+tree_with w held locals todo = record { frame = record { locals = locals; todo = todo }; below = w.below; held = held; wait = None; done = w.done }
+
+-- one between two statements
 abbrev pub tree_at : Around → List ℤ → List Todo → TreeTask
-tree_at w locals todo = record { frame = record { locals = locals; todo = todo }; below = w.below; held = []; wait = None; done = w.done }
+tree_at w locals todo = tree_with w [] locals todo
 
--- a frame of the code between two statements
+-- a frame of the code that holds these values, between two Steps
+abbrev pub frame_with : List ℤ → List ℤ → List Loop → Frame
+frame_with held locals loops = record { cells = locals; stack = []; held = held; loops = loops; listed = []; outs = [] }
+
 abbrev pub frame_at : List ℤ → List Loop → Frame
-frame_at locals loops = record { cells = locals; stack = []; held = []; loops = loops; listed = []; outs = [] }
+frame_at locals loops = frame_with [] locals loops
 
--- a task of the code between two statements
+-- a task of the code that holds these values, and one between two statements
+abbrev pub code_with : Around → List ℤ → List ℤ → List Loop → ℕ → Task
+code_with w held locals loops a = record { address = a; frame = frame_with held locals loops; calls = w.calls; parts = []; wait = None; done = w.done }
+
 abbrev pub code_at : Around → List ℤ → List Loop → ℕ → Task
-code_at w locals loops a = record { address = a; frame = frame_at locals loops; calls = w.calls; parts = []; wait = None; done = w.done }
+code_at w locals loops a = code_with w [] locals loops a
 
 abbrev pub target_of : Target → CopyTarget
 target_of (target.Scalar o) = copied.Scalar o
@@ -88,16 +103,18 @@ AreCallers code p (OfCall outs) (f ∷ below) (c ∷ calls) = (end : FrameEnd) �
     × Continues code p end (c.from + 1) f.todo loops × AreCallers code p end below calls
 AreCallers code p _ _ _ = ⊥
 
--- The task of the code stands where the code does what the task over trees has still to do, with the same cells.
+-- The task of the code stands where the code does what the task over trees has still to do, with the same cells and the
+-- same held values.
 pub record Related (code : Listing) (p : Program) (t : TreeTask) (c : Task) : Type 0 where
   pub around : Around
+  pub held : List ℤ
   pub locals : List ℤ
   pub todo : List Todo
   pub loops : List Loop
   pub address : ℕ
-  pub tree : t ≡ tree_at around locals todo
-  pub task : c ≡ code_at around locals loops address
-  pub there : Settles code p around.end address todo loops
+  pub tree : t ≡ tree_with around held locals todo
+  pub task : c ≡ code_with around held locals loops address
+  pub there : Stands code p around.end held address todo loops
   pub callers : AreCallers code p around.end around.below around.calls
 
 -- an end of the way through instructions
@@ -168,6 +185,19 @@ found_then_is : {A : Type 0} (r q : Result A Trap) (m : ImageMemory) (go : A →
 found_then_is r (Err trap) m go next d is e = refl
 found_then_is r (Ok x) m go next d is e = e x is
 
+-- what is found and then turned into something
+pub found_map : {A B : Type 0} (r : Result A Trap) (f : A → B) (m : ImageMemory) (d : B → Did) → found (bind r (λ x. Ok (f x))) m d ≡ found r m (λ x. d (f x))
+found_map (Err t) f m d = refl
+found_map (Ok x) f m d = refl
+
+pub found_both : {A B C : Type 0} (r : Result A Trap) (q : Result B Trap) (f : A → B → C) (m : ImageMemory) (d : C → Did) → found (bind r (λ x. bind q (λ y. Ok (f x y)))) m d ≡ found r m (λ x. found q m (λ y. d (f x y)))
+found_both (Err t) q f m d = refl
+found_both (Ok x) q f m d = found_map q (f x) m d
+
+pub found_bind : {A B : Type 0} (r : Result A Trap) (go : A → Result B Trap) (m : ImageMemory) (d : B → Did) → found (bind r go) m d ≡ found r m (λ x. found (go x) m d)
+found_bind (Err t) go m d = refl
+found_bind (Ok x) go m d = refl
+
 -- an instruction that finds something, or traps
 pub leads_found : {A : Type 0} (g : Setting) (i : Instr) (js : List Instr) (t : Task) (m : ImageMemory) (r : Result A Trap) (u : A → Task) (n : A → ImageMemory) (d : A → Did)
     → does g.code g.clear i t m ≡ found r m (λ x. Goes (u x) (n x)) → ((x : A) → (u x).address ≡ t.address + 1) → ((x : A) → Leads g js (d x) (u x) (n x)) → Leads g (i ∷ js) (found r m d) t m
@@ -186,17 +216,21 @@ pub leads_answer : (g : Setting) (i : Instr) (js : List Instr) (t : Task) (m : I
     → does g.code g.clear i t m ≡ answers v 1 stack t m → ((z : ℤ) → Leads g js (d z) (past 1 (z ∷ stack) t) m) → Leads g (i ∷ js) (found v m d) t m
 leads_answer g i js t m v stack d e more = leads_found g i js t m v (λ z. past 1 (z ∷ stack) t) (λ z. m) d (e ∙ answers_found v 1 stack t m) (λ z. refl) more
 
+-- instructions that leave a value, and what follows them
+pub leads_this : (g : Setting) (value : Seen → Answer) (is : List Instr) → LeavesThis value is → (js : List Instr) (t : Task) (m : ImageMemory) (d : ℤ → Did)
+    → ((z : ℤ) → Leads g js (d z) (past (length is) (z ∷ t.frame.stack) t) m) → Leads g (is ++ js) (found (value (seen_by t m)) m d) t m
+leads_this g value is leaves js t m d more = record {
+  by = λ has.
+      let v = value (seen_by t m) in
+      ap (λ n. exec g.code g.clear n t m) (length-append is js) ∙ exec_split g.code g.clear (length is) (length js) t m
+      ∙ ap (λ d. then_run d (exec g.code g.clear (length js))) (leaves g.code g.clear t m (has_front g.code.instrs t.address is js has) ∙ answers_found v (length is) t.frame.stack t m)
+      ∙ found_then v m (λ z. Goes (past (length is) (z ∷ t.frame.stack) t) m) (exec g.code g.clear (length js)) d (λ z. (more z).by (has_back g.code.instrs t.address is js has));
+}
+
 -- the value of an expression, and what follows it
 pub leads_value : (g : Setting) (e : ExprR) (at : ℕ) (js : List Instr) (t : Task) (m : ImageMemory) (d : ℤ → Did)
     → ((z : ℤ) → Leads g js (d z) (past (length (expr_code e at)) (z ∷ t.frame.stack) t) m) → Leads g (expr_code e at ++ js) (found (value_at e at (seen_by t m)) m d) t m
-leads_value g e at js t m d more = record {
-  by = λ has.
-      let is = expr_code e at in
-      let v = value_at e at (seen_by t m) in
-      ap (λ n. exec g.code g.clear n t m) (length-append is js) ∙ exec_split g.code g.clear (length is) (length js) t m
-      ∙ ap (λ d. then_run d (exec g.code g.clear (length js))) (g.laws.leaves e at g.code g.clear t m (has_front g.code.instrs t.address is js has) ∙ answers_found v (length is) t.frame.stack t m)
-      ∙ found_then v m (λ z. Goes (past (length is) (z ∷ t.frame.stack) t) m) (exec g.code g.clear (length js)) d (λ z. (more z).by (has_back g.code.instrs t.address is js has));
-}
+leads_value g e at js t m d more = leads_this g (value_at e at) (expr_code e at) (g.laws.leaves e at) js t m d more
 
 -- the same two, where the value is known
 pub leads_answer_is : (g : Setting) (i : Instr) (js : List Instr) (t : Task) (m : ImageMemory) (v : Answer) (stack : List ℤ) (d : ℤ → Did)
@@ -235,24 +269,35 @@ pub found_ends : {A : Type 0} (r : Result A Trap) (m : ImageMemory) (d : A → D
 found_ends (Err trap) m d h = tt
 found_ends (Ok x) m d h = h x
 
--- a Step that ends where the code goes on with what the tree has still to do
+-- where the code goes on with what the tree has still to do
+pub related_after : (g : Setting) (w : Around) (locals : List ℤ) (todo : List Todo) (loops : List Loop) (a : ℕ) → AreCallers g.code g.program w.end w.below w.calls → Continues g.code g.program w.end a todo loops
+    → Related g.code g.program (tree_at w locals todo) (settles g.code (code_at w locals loops a))
+related_after g w locals todo loops a callers there = record {
+  around = w;
+  held = [];
+  locals = locals;
+  todo = todo;
+  loops = loops;
+  address = settled g.code.instrs (length g.code.instrs) a;
+  tree = refl;
+  task = refl;
+  there = between (settled g.code.instrs (length g.code.instrs) a) todo loops (settle g.laws g.code g.program w.end a todo loops there (length g.code.instrs) (omega arith));
+  callers = callers;
+}
+
+-- a Step that ends there
 pub ran_same : (g : Setting) (c : Task) (m n : ImageMemory) (w : Around) (locals : List ℤ) (todo : List Todo) (loops : List Loop) (a : ℕ) → AreCallers g.code g.program w.end w.below w.calls → Continues g.code g.program w.end a todo loops
     → SameFor g c m (record { effect = effect.Ran; task = tree_at w locals todo; memory = n }) (Stops effect.Ran (code_at w locals loops a) n)
-ran_same g c m n w locals todo loops a callers there = record {
-  effect = refl;
-  memory = refl;
-  tasks = record {
-    around = w;
-    locals = locals;
-    todo = todo;
-    loops = loops;
-    address = settled g.code.instrs (length g.code.instrs) a;
-    tree = refl;
-    task = refl;
-    there = settle g.laws g.code g.program w.end a todo loops there (length g.code.instrs) (omega arith);
-    callers = callers;
-  };
-}
+ran_same g c m n w locals todo loops a callers there = record { effect = refl; memory = refl; tasks = related_after g w locals todo loops a callers there }
+
+-- the same for one that begins an operation, and for one that enters a finish
+pub begun_same : (g : Setting) (c : Task) (m n : ImageMemory) (w : Around) (locals : List ℤ) (todo : List Todo) (loops : List Loop) (a : ℕ) (what : OpSpec) → AreCallers g.code g.program w.end w.below w.calls → Continues g.code g.program w.end a todo loops
+    → SameFor g c m (record { effect = effect.Begins what; task = tree_at w locals todo; memory = n }) (Stops (effect.Begins what) (code_at w locals loops a) n)
+begun_same g c m n w locals todo loops a what callers there = record { effect = refl; memory = refl; tasks = related_after g w locals todo loops a callers there }
+
+pub entered_same : (g : Setting) (c : Task) (m n : ImageMemory) (w : Around) (locals : List ℤ) (todo : List Todo) (loops : List Loop) (a : ℕ) (t : Team) → AreCallers g.code g.program w.end w.below w.calls → Continues g.code g.program w.end a todo loops
+    → SameFor g c m (record { effect = effect.Enters t; task = tree_at w locals todo; memory = n }) (Stops (effect.Enters t) (code_at w locals loops a) n)
+entered_same g c m n w locals todo loops a t callers there = record { effect = refl; memory = refl; tasks = related_after g w locals todo loops a callers there }
 
 -- a Step whose instructions stand at the task's address
 pub step_by : (g : Setting) (c : Task) (m : ImageMemory) (x : After TreeTask) (is : List Instr) (d : Did) → c.wait ≡ None → HasAt g.code.instrs c.address is → Leads g is d c m → IsEnd d → SameFor g c m x d → SameStep g.code (Related g.code g.program) x (runs g.code g.clear c m)

@@ -23,14 +23,15 @@ use Rattle.caf_exprgen.specs.Straight.{Serves}
 use Rattle.caf_exprgen.specs.Words.{CodesLeaveValues}
 use Rattle.caf_codegen.specs.Compiled.{copied_dummies}
 use Rattle.caf_codegen.specs.ProgramCode.{main_code, main_size, program_code, sub_code, sub_entries, sub_size, subs_code, subs_texts}
-use Rattle.caf_codegen.proofs.Fits.{are_subs_simple, is_block_simple}
 use Rattle.caf_codegen.specs.StmtCode.{StandsAt, block, codes, sizes, texts_in}
 use Rattle.caf_codegen.proofs.Agree.{sub_sized}
 use Rattle.caf_codegen.proofs.Both.{first_true, second_true}
 use Rattle.caf_codegen.proofs.Places.{has_all, has_behind, has_front, stands_all, stands_back, stands_front}
 use Rattle.caf_codegen.proofs.Runs.{AllFine, Entry, Fine, HasRun, Spot, Target, entries, entries_length, fine_append, fine_at, in_part, is_fine, is_there, meets_here, rests_here, run_behind, run_front, run_of, same_part, same_parts, shapes_in, stand_in}
 use Rattle.caf_codegen.proofs.Sized.{sized_block}
-use Rattle.caf_codegen.proofs.Valid.{SubsListed, body_piece, plain}
+use Rattle.caf_codegen.proofs.Held.{plain}
+use Rattle.caf_codegen.proofs.Ending.{SubsListed}
+use Rattle.caf_codegen.proofs.Valid.{body_piece}
 
 -- the entries of subroutines one after another, of which the first has this number
 abbrev sub_rows : Listing → List SubR → ℕ → ℕ → ℕ → List Entry
@@ -80,14 +81,14 @@ subs_listed (x ∷ subs) a (suc at) f e = subs_listed subs (a + sub_size x) at f
 
 module _ (laws : CodesLeaveValues) (code : Listing) (all : List Entry) where
   -- the main program
-  main_fine : (p : Program) → SubsListed code p.subs → Serves code Main (main_scope p) → is_block_simple p.subs p.body ≡ true → block_keeps_rules (main_scope p) p.body ≡ true → StandsAt code.texts 0 (texts_in (codes p.body)) → HasAt code.instrs 0 (main_code p.body) → HasRun code all Main 0 (main_code p.body) (plain 0 1)
+  main_fine : (p : Program) → SubsListed code p.subs → Serves code Main (main_scope p) → block_keeps_rules (main_scope p) p.body ≡ true → StandsAt code.texts 0 (texts_in (codes p.body)) → HasAt code.instrs 0 (main_code p.body) → HasRun code all Main 0 (main_code p.body) (plain 0 1)
       → Target code all Main 0 (plain 0 1) × AllFine code all 0 (main_code p.body)
-  main_fine p listed serves simple keeps texts has run =
+  main_fine p listed serves keeps texts has run =
       let is = block (codes p.body) 0 0 in
       let ends = instr.Close ∷ instr.Halt ∷ [] in
       let q = sizes (codes p.body) in
       let here : q ≡ 0 + length is = omega (arith, sized_block p.body 0 0) in
-      let piece = body_piece laws code all Main (main_scope p) serves listed p.body simple keeps 0 0 0 1 texts in
+      let piece = body_piece laws code all Main (main_scope p) serves listed p.body keeps 0 0 0 1 texts in
       let has_ends = has_behind code.instrs 0 q is ends here has in
       let run_ends = run_behind code all Main 0 q is ends (plain 0 1) (plain 0 1) here piece.after run in
       let halts = slice_get_within code.instrs (q + 1) instr.Halt has_ends.1.0 in
@@ -99,14 +100,14 @@ module _ (laws : CodesLeaveValues) (code : Listing) (all : List Entry) where
       (body.0.target, fine_append code all 0 q is ends here body.1 (close, (halt, tt)))
 
   -- a subroutine
-  sub_fine : (p : Program) → SubsListed code p.subs → (f : SubR) (i a k : ℕ) → Serves code (Sub i) (sub_scope p f) → is_block_simple p.subs f.body ≡ true → block_keeps_rules (sub_scope p f) f.body ≡ true → StandsAt code.texts k (texts_in (codes f.body)) → HasAt code.instrs a (sub_code f a k) → HasRun code all (Sub i) a (sub_code f a k) (plain 0 0)
+  sub_fine : (p : Program) → SubsListed code p.subs → (f : SubR) (i a k : ℕ) → Serves code (Sub i) (sub_scope p f) → block_keeps_rules (sub_scope p f) f.body ≡ true → StandsAt code.texts k (texts_in (codes f.body)) → HasAt code.instrs a (sub_code f a k) → HasRun code all (Sub i) a (sub_code f a k) (plain 0 0)
       → Target code all (Sub i) a (plain 0 0) × AllFine code all a (sub_code f a k)
-  sub_fine p listed f i a k serves simple keeps texts has run =
+  sub_fine p listed f i a k serves keeps texts has run =
       let is = block (codes f.body) a k in
       let ends = instr.Ret ∷ [] in
       let q = a + sizes (codes f.body) in
       let here : q ≡ a + length is = omega (arith, sized_block f.body a k) in
-      let piece = body_piece laws code all (Sub i) (sub_scope p f) serves listed f.body simple keeps a k 0 0 texts in
+      let piece = body_piece laws code all (Sub i) (sub_scope p f) serves listed f.body keeps a k 0 0 texts in
       let has_ends = has_behind code.instrs a q is ends here has in
       let run_ends = run_behind code all (Sub i) a q is ends (plain 0 0) (plain 0 0) here piece.after run in
       let rests = rests_here code all q instr.Ret has_ends.0 refl in
@@ -130,14 +131,14 @@ module _ (laws : CodesLeaveValues) (code : Listing) (all : List Entry) where
         ap cells_in there ∙ sum;
   }
 
-  subs_fine : (p : Program) → SubsListed code p.subs → code.objects ≡ p.objects → (subs : List SubR) (i a k : ℕ) → ((j : ℕ) → slice_get code.subs (i + j) ≡ slice_get (sub_entries subs a) j) → are_subs_simple p.subs subs ≡ true → list_all (sub_keeps_rules p) subs ≡ true
+  subs_fine : (p : Program) → SubsListed code p.subs → code.objects ≡ p.objects → (subs : List SubR) (i a k : ℕ) → ((j : ℕ) → slice_get code.subs (i + j) ≡ slice_get (sub_entries subs a) j) → list_all (sub_keeps_rules p) subs ≡ true
       → StandsAt code.texts k (subs_texts subs) → HasAt code.instrs a (subs_code subs a k) → StandsAt all a (sub_rows code subs i a k) → SubsStand subs i a × AllFine code all a (subs_code subs a k)
-  subs_fine p listed objects [] i a k there simple keeps texts has rows = (none, tt)
+  subs_fine p listed objects [] i a k there keeps texts has rows = (none, tt)
     where
       none : SubsStand [] i a
       none zero s e = let f : None ≡ Some s = e in absurd (cc)
       none (suc j) s e = let f : None ≡ Some s = e in absurd (cc)
-  subs_fine p listed objects (f ∷ subs) i a k there simple keeps texts has rows =
+  subs_fine p listed objects (f ∷ subs) i a k there keeps texts has rows =
       let is = sub_code f a k in
       let b = a + sub_size f in
       let ts = texts_in (codes f.body) in
@@ -148,10 +149,10 @@ module _ (laws : CodesLeaveValues) (code : Listing) (all : List Entry) where
       let entry = subst (λ n. slice_get code.subs n ≡ Some (record { address = a; dummies = copied_dummies f; locals = length f.locals })) at_i (there 0) in
       let own = first_true (sub_keeps_rules p f) (list_all (sub_keeps_rules p) subs) keeps in
       let body = second_true (nat_le (length f.dummies + length f.locals) 64) (block_keeps_rules (sub_scope p f) f.body) own in
-      let first = sub_fine p listed f i a k (sub_serves p f i a objects entry) (first_true (is_block_simple p.subs f.body) (are_subs_simple p.subs subs) simple) body (stands_front code.texts k ts (subs_texts subs) texts) (has_front code.instrs a is _ has)
+      let first = sub_fine p listed f i a k (sub_serves p f i a objects entry) body (stands_front code.texts k ts (subs_texts subs) texts) (has_front code.instrs a is _ has)
       (run_of code all (Sub i) a is (plain 0 0) (stands_front all a (entries code (Sub i) is (plain 0 0)) _ rows)) in
       let next : (j : ℕ) → slice_get code.subs (suc i + j) ≡ slice_get (sub_entries subs b) j = λ j. (let e : suc i + j ≡ i + suc j = omega arith in subst (λ n. slice_get code.subs n ≡ slice_get (sub_entries subs b) j) (sym e) (there (suc j))) in
-      let rest = subs_fine p listed objects subs (suc i) b more next (second_true (is_block_simple p.subs f.body) (are_subs_simple p.subs subs) simple) (second_true (sub_keeps_rules p f) (list_all (sub_keeps_rules p) subs) keeps)
+      let rest = subs_fine p listed objects subs (suc i) b more next (second_true (sub_keeps_rules p f) (list_all (sub_keeps_rules p) subs) keeps)
       (stands_back code.texts k ts (subs_texts subs) texts) (has_behind code.instrs a b is _ here has) (subst (λ n. StandsAt all n (sub_rows code subs (suc i) b more)) here' (stands_back all a (entries code (Sub i) is (plain 0 0)) _ rows)) in
       (each f subs i a first.0 rest.0, fine_append code all a b is _ here first.1 rest.1)
     where
@@ -191,8 +192,8 @@ declared_last (o ∷ os) e =
     both : has_last_index o ≡ true → list_all has_last_index os ≡ true → (has_last_index o && list_all has_last_index os) ≡ true
     both e f = ap (λ b. b && list_all has_last_index os) e ∙ f
 
-pub keeps_rules_of : CodesLeaveValues → (p : Program) → IsAccepted p → is_block_simple p.subs p.body ≡ true → are_subs_simple p.subs p.subs ≡ true → KeepsRules (program_code p)
-keeps_rules_of laws p accepted simple simple_subs =
+pub keeps_rules_of : CodesLeaveValues → (p : Program) → IsAccepted p → KeepsRules (program_code p)
+keeps_rules_of laws p accepted =
     let code = program_code p in
     let body = p.body in
     let main = main_code body in
@@ -210,10 +211,10 @@ keeps_rules_of laws p accepted simple simple_subs =
     let stand : StandsAt all 0 (front ++ back) = stands_all (front ++ back) [] in
     let texts : StandsAt code.texts 0 (ts ++ subs_texts p.subs) = stands_all (ts ++ subs_texts p.subs) [] in
     let to_texts : 0 + k ≡ k = omega arith in
-    let of_main = main_fine laws code all p (subs_listed p.subs n) (record { objects = refl; cells = refl }) simple accepted.kinds.main (stands_front code.texts 0 ts (subs_texts p.subs) texts)
+    let of_main = main_fine laws code all p (subs_listed p.subs n) (record { objects = refl; cells = refl }) accepted.kinds.main (stands_front code.texts 0 ts (subs_texts p.subs) texts)
     (has_front code.instrs 0 main subs has) (run_of code all Main 0 main (plain 0 1) (stands_front all 0 front back stand)) in
     let these : (j : ℕ) → slice_get code.subs (0 + j) ≡ slice_get (sub_entries p.subs n) j = λ j. (let e : 0 + j ≡ j = omega arith in ap (slice_get code.subs) e) in
-    let of_subs = subs_fine laws code all p (subs_listed p.subs n) refl p.subs 0 n k these simple_subs accepted.kinds.subs (subst (λ i. StandsAt code.texts i (subs_texts p.subs)) to_texts (stands_back code.texts 0 ts (subs_texts p.subs) texts))
+    let of_subs = subs_fine laws code all p (subs_listed p.subs n) refl p.subs 0 n k these accepted.kinds.subs (subst (λ i. StandsAt code.texts i (subs_texts p.subs)) to_texts (stands_back code.texts 0 ts (subs_texts p.subs) texts))
     (has_behind code.instrs 0 n main subs main_sized has) (subst (λ i. StandsAt all i back) to_back (stands_back all 0 front back stand)) in
     let fine : AllFine code all 0 code.instrs = fine_append code all 0 n main subs main_sized of_main.1 of_subs.1 in
     record {

@@ -28,10 +28,9 @@ pub(crate) fn place(at: usize) -> Result<u32, Memory>
     }
 }
 
-/// The code of an expression whose first held value has this place. The place behind its held values is the result.
-pub(crate) fn gen_value(e: &ExprR, held: u32, code: &mut Vec<Instr>) -> Result<u32, Memory>
-    ensures code { OnOk result (code.new.items ≡ code.old.items ++ expr_code e.now held) }
-    ensures next { IfOk result (λ next. next ≡ held + count e.now) }
+/// The place behind the held values of an expression whose first one has this place.
+pub(crate) fn place_behind(e: &ExprR, held: u32) -> Result<u32, Memory>
+    ensures { IfOk result (λ next. next ≡ held + count e.now) }
 {
     let Some(count) = e.read_count() else {
         return Err(Memory);
@@ -39,7 +38,15 @@ pub(crate) fn gen_value(e: &ExprR, held: u32, code: &mut Vec<Instr>) -> Result<u
     let Some(next) = count.checked_add(held as usize) else {
         return Err(Memory);
     };
-    let next = place(next)?;
+    place(next)
+}
+
+/// The code of an expression whose first held value has this place. The place behind its held values is the result.
+pub(crate) fn gen_value(e: &ExprR, held: u32, code: &mut Vec<Instr>) -> Result<u32, Memory>
+    ensures code { OnOk result (code.new.items ≡ code.old.items ++ expr_code e.now held) }
+    ensures next { IfOk result (λ next. next ≡ held + count e.now) }
+{
+    let next = place_behind(e, held)?;
     gen_expr(e, held, code)?;
     Ok(next)
 }

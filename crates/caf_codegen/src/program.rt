@@ -2,7 +2,6 @@ ghost use Rattle.std.specs.Prelude.{◌≡◌, ◌+◌, ◌++◌, [], ◌∷◌,
 ghost use Rattle.caf_program.specs.Ships.{is_in};
 ghost use Rattle.caf_codegen.specs.Compiled.{Compiled, copied_dummies};
 ghost use Rattle.caf_codegen.specs.ProgramCode.{main_code, program_code, sub_code, sub_entries, subs_code, subs_texts};
-ghost use Rattle.caf_source.specs.Built.{is_program_built};
 ghost use Rattle.caf_codegen.specs.StmtCode.{codes, texts_in};
 
 use crate::emit::{place, put};
@@ -16,7 +15,6 @@ use std::alloc::Global;
 /// The code of a program. Each step of its tasks, from one to the next, does what the step over the program's trees does.
 /// A program whose addresses or texts are too many for an instruction to name is refused as if there were no memory.
 pub fn compile(alloc: Global, a: &Accepted) -> Result<Code, Memory>
-    requires { IsTrue (is_program_built a.now) }
     ensures { IfOk result (λ code. Compiled a.now code) }
 {
     let listing = gen_program(alloc, a.program())?;

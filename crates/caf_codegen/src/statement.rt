@@ -1,12 +1,19 @@
 ghost use Rattle.std.specs.Prelude.{◌≡◌, ◌+◌, ◌<◌, ◌++◌, [], ◌∷◌, length, IfOk, OnOk};
-ghost use Rattle.caf_codegen.specs.StmtCode.{block as block_code, bounds_code, codes, do_code, guarded, load_of, sizes, stmt_code, store_of, texts_in, turn_code};
+ghost use Rattle.caf_codegen.specs.StmtCode.{block as block_code, bounds_code, codes, do_code, finish_code, guarded, last_code, load_of, sizes, stmt_code, store_of, texts_in, turn_code};
 
+use crate::ask::ask_statement;
 use crate::assign::gen_assign;
 use crate::call::gen_call;
+use crate::copy::gen_copy;
 use crate::emit::{gen_value, place, put};
+use crate::event::{gen_notify, gen_wait};
 use crate::print::gen_print;
+use crate::section::gen_aim;
+use crate::ship::gen_ship;
+use crate::split::gen_split;
 use caf_base::{Memory, Sequence, Text};
-use caf_code::{Arithmetic, CellUse, Instr, Reach};
+use caf_code::{Arithmetic, CellUse, Instr, Reach, TeamName};
+use caf_exprgen::named;
 use caf_program::{ExprR, LoopVariableR, StmtR};
 use std::alloc::Global;
 
@@ -27,6 +34,7 @@ pub(crate) fn gen_block(
     Ok(())
 }
 
+/// The reads of a statement, each a step of its own, and then its last step with the blocks that follow it.
 #[cycle(statements)]
 fn gen_statement(
     alloc: Global,
@@ -36,6 +44,23 @@ fn gen_statement(
 ) -> Result<(), Memory>
     ensures code { OnOk result (code.new.items ≡ code.old.items ++ (stmt_code statement.now).code (length code.old.items) (length texts.old)) }
     ensures texts { OnOk result (texts.new ≡ texts.old ++ (stmt_code statement.now).texts) }
+{
+    let start = place(code.len())?;
+    ask_statement(statement, code)?;
+    gen_last(alloc, statement, start, code, texts)
+}
+
+/// The last step of a statement that begins at the address `start`.
+#[cycle(statements)]
+fn gen_last(
+    alloc: Global,
+    statement: &StmtR,
+    start: u32,
+    code: &mut Vec<Instr>,
+    texts: &mut Sequence<Text>,
+) -> Result<(), Memory>
+    ensures code { OnOk result (code.new.items ≡ code.old.items ++ (last_code start statement.now).code (length code.old.items) (length texts.old)) }
+    ensures texts { OnOk result (texts.new ≡ texts.old ++ (last_code start statement.now).texts) }
 {
     match statement {
         StmtR::Assign { target, value, .. } => gen_assign(target, value, code),
@@ -69,14 +94,60 @@ fn gen_statement(
             body,
             ..
         } => {
-            let start = place(code.len())?;
             gen_value(condition, 0, code)?;
             gen_guarded(alloc, body.as_slice(), start, code, texts)?;
             Ok(())
         }
         StmtR::Call { sub, actuals, .. } => gen_call(*sub, actuals.as_slice(), code),
-        _ => put(code, Instr::Next),
+        StmtR::Aim {
+            copointer,
+            region,
+            ..
+        } => gen_aim(*copointer, region, code),
+        StmtR::Spawn {
+            done,
+            sub,
+            actuals,
+            place,
+            ..
+        } => gen_ship(done, *sub, actuals.as_slice(), place, code),
+        StmtR::Copy {
+            dest,
+            source,
+            events,
+            ..
+        } => gen_copy(dest, source, events.as_slice(), code),
+        StmtR::Notify { event, .. } => gen_notify(event, code),
+        StmtR::Wait { event, .. } => gen_wait(event, code),
+        StmtR::Cofence { down, .. } => put(code, Instr::Cofence(*down)),
+        StmtR::Split {
+            team,
+            colour,
+            key,
+            new,
+            ..
+        } => gen_split(*team, colour, key, *new, code),
+        StmtR::Finish { team, body, .. } => {
+            gen_finish(alloc, named(*team), body.as_slice(), code, texts)
+        }
     }
+}
+
+/// A finish: its beginning, its body, and its end.
+#[cycle(statements)]
+fn gen_finish(
+    alloc: Global,
+    name: TeamName,
+    body: &[StmtR],
+    code: &mut Vec<Instr>,
+    texts: &mut Sequence<Text>,
+) -> Result<(), Memory>
+    ensures code { OnOk result (code.new.items ≡ code.old.items ++ (finish_code name (codes body.now)).code (length code.old.items) (length texts.old)) }
+    ensures texts { OnOk result (texts.new ≡ texts.old ++ texts_in (codes body.now)) }
+{
+    put(code, Instr::Finish(name))?;
+    gen_block(alloc, body, code, texts)?;
+    put(code, Instr::Close)
 }
 
 /// A block behind a test of the number on the stack, which leads past it where it fails, and behind the block a jump to an

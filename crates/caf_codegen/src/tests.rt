@@ -12,7 +12,6 @@ use caf_program::{
     Accepted, ActualR, DummyR, ExprR, Intent, LoopVariableR, PrintR, Program, StmtR, SubR,
     ValueKind, VariableR,
 };
-use caf_source::is_built;
 use sqlite_items::{Boxed, Items};
 use std::alloc::{AllocError, Global};
 use std::process::Abort;
@@ -20,7 +19,6 @@ use std::test::Fail;
 
 /// Expects this listing of a program's code.
 fn expect<R: Abort>(rt: &R, alloc: Global, a: &Accepted, wanted: &[u8]) -> Result<(), Memory> {
-    assert!(rt; is_built(a));
     let code = compile(alloc, a)?;
     assert_eq!(rt; print_listing(alloc, &code)?.as_slice(), wanted);
     Ok(())

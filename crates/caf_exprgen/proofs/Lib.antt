@@ -5,4 +5,5 @@ pub mod Layers
 pub mod Within
 pub mod Slots
 pub mod Puts
+pub mod Asking
 pub mod Laws

@@ -76,21 +76,21 @@ unary_operands code unary.Negate = refl
 unary_operands code unary.Absolute = refl
 unary_operands code unary.Not = refl
 
-straight_append : (code : Listing) (p : Part) (is js : List Instr) (h g h' : Shape) → Straight code p is h g → Straight code p js g h' → Straight code p (is ++ js) h h'
+pub straight_append : (code : Listing) (p : Part) (is js : List Instr) (h g h' : Shape) → Straight code p is h g → Straight code p js g h' → Straight code p (is ++ js) h h'
 straight_append code p [] js h g h' e s = subst (λ k. Straight code p js k h') (sym e) s
 straight_append code p (i ∷ is) js h g h' s s' = (s.0, s.1, s.2, straight_append code p is js s.0 g h' s.3 s')
 
 -- a kind that an operand has
-has_some : (w : ValueKind) (o : Option ValueKind) → has_kind w o ≡ true → (k : ValueKind) × (o ≡ Some k)
+pub has_some : (w : ValueKind) (o : Option ValueKind) → has_kind w o ≡ true → (k : ValueKind) × (o ≡ Some k)
 has_some Integer (Some Integer) e = (Integer, refl)
 has_some Logical (Some Logical) e = (Logical, refl)
 has_some _ _ e = let h : false ≡ true = e in absurd (cc)
 
 -- the first operand of a chain that has a kind has one
-abbrev FirstHasKind : Option ValueKind → List (BinaryOperator × Option ValueKind) → Type 0
+abbrev pub FirstHasKind : Option ValueKind → List (BinaryOperator × Option ValueKind) → Type 0
 FirstHasKind o rest = (k : ValueKind) → chain_kind o rest ≡ Some k → (x : ValueKind) × (o ≡ Some x)
 
-first_has_kind : (o : Option ValueKind) (rest : List (BinaryOperator × Option ValueKind)) → FirstHasKind o rest
+pub first_has_kind : (o : Option ValueKind) (rest : List (BinaryOperator × Option ValueKind)) → FirstHasKind o rest
 first_has_kind o [] k e = (k, e)
 first_has_kind o (p ∷ rest) k e =
     let test = has_kind (operand_kind p.0) o && has_kind (operand_kind p.0) p.1 in

@@ -6,14 +6,14 @@ use Rattle.std.proofs.lemmas.Option.{slice_get_within}
 use Rattle.caf_base.specs.declared.object.Kind.{Kind}
 use Rattle.caf_base.specs.declared.object.Kind.TheVariants as kind
 use Rattle.caf_base.specs.declared.object.Object.{Object}
-use Rattle.caf_program.specs.Kinds.{FrameCell, Scope, cell_kind, element_kind, holds_team, is_scalar, is_team, names_team, object_kind, provided, scalar_kind}
+use Rattle.caf_program.specs.Kinds.{FrameCell, Scope, aimed_kind, cell_kind, coarray_kind, copointer_kind, element_kind, holds_team, is_scalar, is_team, names_team, object_kind, provided, scalar_kind}
 use Rattle.caf_program.specs.declared.expr.TeamR.{TeamR}
 use Rattle.caf_program.specs.declared.expr.TeamR.TheVariants as team
 use Rattle.caf_program.specs.declared.program.ValueKind.{ValueKind}
-use Rattle.caf_code.specs.Rules.{is_data, is_data_kind, is_team_kind, names_team as names_team_of, of_kind}
+use Rattle.caf_code.specs.Rules.{is_copointer, is_copointer_kind, is_data, is_data_kind, is_team_kind, names_place, names_team as names_team_of, of_kind}
 use Rattle.caf_code.specs.Shapes.{Part, cells_of}
 use Rattle.caf_code.specs.declared.listing.Listing.{Listing}
-use Rattle.caf_exprgen.specs.ExprCode.{team_name}
+use Rattle.caf_exprgen.specs.ExprCode.{team_name, team_place}
 use Rattle.caf_exprgen.specs.Straight.{Serves}
 
 -- what `provided` says where it gives a kind
@@ -70,3 +70,30 @@ is_below cells n (Some c) k e f = slice_get_within cells n c e
 
 pub cell_there : (code : Listing) (p : Part) (s : Scope) (n : ℕ) (k : ValueKind) → Serves code p s → cell_kind (slice_get s.cells n) ≡ Some k → nat_lt n (cells_of code p) ≡ true
 cell_there code p s n k serves e = subst (λ x. nat_lt n x ≡ true) (sym serves.cells) (lt-ltb n (length s.cells) (is_below s.cells n (slice_get s.cells n) k refl e))
+
+pub both_true : (a b : Bool) → a ≡ true → b ≡ true → (a && b) ≡ true
+both_true true b e f = f
+both_true false b e f = e
+
+coarray_object : (o : Option Object) (k : ValueKind) → coarray_kind o ≡ Some k → of_kind is_data_kind o ≡ true
+coarray_object None k e = let h : None ≡ Some k = e in absurd (cc)
+coarray_object (Some o) k e = data_kind o.kind k (provided_kind o.shared (element_kind o.kind) k e)
+
+pub coarray_data : (code : Listing) (p : Part) (s : Scope) (o : ℕ) (k : ValueKind) → Serves code p s → coarray_kind (slice_get s.objects o) ≡ Some k → is_data code o ≡ true
+coarray_data code p s o k serves e = subst (λ xs. of_kind is_data_kind (slice_get xs o) ≡ true) (sym serves.objects) (coarray_object (slice_get s.objects o) k e)
+
+aimed : (x : Kind) (k : ValueKind) → aimed_kind x ≡ Some k → is_copointer_kind x ≡ true
+aimed kind.CoInteger k e = refl
+aimed kind.CoLogical k e = refl
+aimed _ k e = let h : None ≡ Some k = e in absurd (cc)
+
+copointer_object : (o : Option Object) (k : ValueKind) → copointer_kind o ≡ Some k → of_kind is_copointer_kind o ≡ true
+copointer_object None k e = let h : None ≡ Some k = e in absurd (cc)
+copointer_object (Some o) k e = aimed o.kind k e
+
+pub copointer_named : (code : Listing) (p : Part) (s : Scope) (c : ℕ) (k : ValueKind) → Serves code p s → copointer_kind (slice_get s.objects c) ≡ Some k → is_copointer code c ≡ true
+copointer_named code p s c k serves e = subst (λ xs. of_kind is_copointer_kind (slice_get xs c) ≡ true) (sym serves.objects) (copointer_object (slice_get s.objects c) k e)
+
+pub place_named : (code : Listing) (p : Part) (s : Scope) (x : TeamR) → Serves code p s → names_team s x ≡ true → names_place code (team_place x) ≡ true
+place_named code p s team.World serves e = refl
+place_named code p s (team.Object o) serves e = subst (λ xs. of_kind is_team_kind (slice_get xs o) ≡ true) (sym serves.objects) (team_object (slice_get s.objects o) e)

@@ -50,11 +50,11 @@ all_append : (is js : List Instr) → all_inner is ≡ true → all_inner js ≡
 all_append [] js e f = f
 all_append (i ∷ is) js e f = inner_second (is_inner i) (all_inner is) (all_inner (is ++ js)) e (λ more. all_append is js more f)
 
-within_append : (is js : List Instr) → is_within_step is ≡ true → all_inner js ≡ true → is_within_step (is ++ js) ≡ true
+pub within_append : (is js : List Instr) → is_within_step is ≡ true → all_inner js ≡ true → is_within_step (is ++ js) ≡ true
 within_append [] js e f = let h : false ≡ true = e in absurd (cc)
 within_append (i ∷ is) js e f = all_append (i ∷ is) js e f
 
-all_of_within : (is : List Instr) → is_within_step is ≡ true → all_inner is ≡ true
+pub all_of_within : (is : List Instr) → is_within_step is ≡ true → all_inner is ≡ true
 all_of_within [] e = refl
 all_of_within (i ∷ is) e = e
 

@@ -25,7 +25,7 @@ pub fn gen_expr(e: &ExprR, held: u32, out: &mut Vec<Instr>) -> Result<(), Memory
 
 /// Appends the code of an expression whose first held value stands at `at`, which then goes past its held values.
 #[tactic(auto, using(crate::proofs::Seq::append_three, crate::proofs::Seq::begins_more, crate::proofs::Seq::begins_on, crate::proofs::Gives::coded_count))]
-fn gen_from(e: &ExprR, at: &mut usize, out: &mut Vec<Instr>) -> Result<(), Memory>
+pub(crate) fn gen_from(e: &ExprR, at: &mut usize, out: &mut Vec<Instr>) -> Result<(), Memory>
     requires { at.old + (coded e.now).count ≤ 2 ^ 32 }
     ensures code { OnOk result (out.new.items ≡ out.old.items ++ expr_code e.now at.old) }
     ensures at { OnOk result (at.new ≡ at.old + (coded e.now).count) }
@@ -79,7 +79,7 @@ fn put_held(at: &mut usize, out: &mut Vec<Instr>) -> Result<(), Memory>
 }
 
 /// The team as instructions name it.
-fn named(team: TeamR) -> TeamName
+pub fn named(team: TeamR) -> TeamName
     ensures { result ≡ team_name team }
 {
     match team {
@@ -90,7 +90,7 @@ fn named(team: TeamR) -> TeamName
 
 /// One instruction more.
 #[tactic(auto, using(crate::proofs::Seq::begins_same))]
-fn put(out: &mut Vec<Instr>, instr: Instr) -> Result<(), Memory>
+pub(crate) fn put(out: &mut Vec<Instr>, instr: Instr) -> Result<(), Memory>
     ensures ok { OnOk result (out.new.items ≡ out.old.items ++ instr ∷ []) }
     ensures err { OnErr result (Begins out.old.items out.new.items) }
 {

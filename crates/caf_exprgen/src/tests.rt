@@ -1,6 +1,9 @@
-use super::gen_expr;
+use super::{gen_expr, gen_reads};
 use caf_base::{BinaryOperator, Memory, UnaryOperator};
-use caf_code::{Arithmetic, CellUse, Instr, Logical, Reach, Relation, TeamName, TeamQuery};
+use caf_code::{
+    Arithmetic, CellUse, ElementForm, Instr, Logical, PlaceForm, Reach, Relation, TeamName,
+    TeamQuery,
+};
 use caf_program::{ExprR, PlaceR, TeamR};
 use sqlite_items::{Boxed, Items};
 use std::alloc::{AllocError, Global};
@@ -38,6 +41,16 @@ fn code_of(alloc: Global, e: &ExprR, held: u32) -> Result<Vec<Instr>, Memory> {
     let mut out = Vec::new(alloc);
     match e.read_count() {
         Some(count) if count < 100 && held < 100 => gen_expr(e, held, &mut out)?,
+        _ => {}
+    }
+    Ok(out)
+}
+
+/// The code of an expression's reads.
+fn reads_of(alloc: Global, e: &ExprR) -> Result<Vec<Instr>, Memory> {
+    let mut out = Vec::new(alloc);
+    match e.read_count() {
+        Some(count) if count < 100 => gen_reads(e, 0, &mut out)?,
         _ => {}
     }
     Ok(out)
@@ -117,6 +130,34 @@ fn each_read_is_the_last_of_those_that_it_needs(rt: HostRuntime) -> Result<(), F
                 Instr::Held(1),
                 Instr::Held(3),
                 Instr::Arithmetic(Arithmetic::Add),
+            ]
+        )
+    );
+    Ok(())
+}
+
+#[test]
+fn reads_stand_in_post_order(rt: HostRuntime) -> Result<(), Fail> {
+    let alloc = rt.alloc();
+    // c[p(1)] + p(c[team_size()])
+    let first = coindexed(alloc, pointed(alloc, ExprR::Number(1))?)?;
+    let second = pointed(alloc, coindexed(alloc, ExprR::Size(TeamR::World))?)?;
+    let e = chain(alloc, first, BinaryOperator::Add, second)?;
+    let code = reads_of(alloc, &e)?;
+    assert!(rt;
+        matches!(
+            code.as_slice(),
+            [
+                Instr::Push(1),
+                Instr::Ask(ElementForm::Pointed(5)),
+                Instr::Push(1),
+                Instr::Held(0),
+                Instr::Ask(ElementForm::Coindexed(0, PlaceForm::World)),
+                Instr::Push(1),
+                Instr::Team(TeamQuery::Size, TeamName::World),
+                Instr::Ask(ElementForm::Coindexed(0, PlaceForm::World)),
+                Instr::Held(2),
+                Instr::Ask(ElementForm::Pointed(5)),
             ]
         )
     );

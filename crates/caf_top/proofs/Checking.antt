@@ -1,23 +1,18 @@
 -- What is due of a check, stage by stage.
-use Rattle.std.proofs.Common.{◌≡◌, ◌≢◌, ◌<◌, ◌≤◌, ◌++◌, ℕ, List, [], codes, length, Option, Result, Ok, Err, IfOk, refl, sym, ap, subst}
-use Rattle.caf_journal.specs.declared.entry.Entry.{Entry}
+use Rattle.std.proofs.Common.{◌≡◌, ◌≢◌, ◌<◌, ◌≤◌, ℕ, List, [], length, Option, Result, Ok, Err, IfOk, refl, sym, subst}
 use Rattle.caf_outside.specs.Causes.{HasLoadCause}
 use Rattle.caf_outside.specs.Texts.{Has, Texts}
 use Rattle.caf_outside.specs.declared.fault.LoadFail.{LoadFail}
 use Rattle.caf_outside.specs.declared.fault.LoadFail.TheVariants as fail
 use Rattle.caf_program.specs.declared.program.Program.{Program}
 use Rattle.caf_top.specs.Answers.{IsStopped, IsTold}
-use Rattle.caf_top.specs.Check.{CheckDue, IsAccepted, IsTraced, IsWrongText}
-use Rattle.caf_top.specs.Dues.{Host, IsCheckDue, host_of}
-use Rattle.caf_top.specs.Promise.{IsDue, IsLoaded, IsUnloaded, Seen, limit, seen_of, trace_limit}
+use Rattle.caf_top.specs.Check.{CheckDue, IsAccepted, IsTraced}
+use Rattle.caf_top.specs.Dues.{IsCheckDue, host_of}
+use Rattle.caf_top.specs.Promise.{IsUnloaded, Seen, limit, seen_of, trace_limit}
 use Rattle.caf_top.specs.Reading.{Reads, told_by}
 use Rattle.caf_top.specs.Refusals.{IsWrong}
 use Rattle.caf_top.specs.Sees.{Sees}
 use Rattle.caf_top.specs.declared.answer.Answer.{Answer}
-use Rattle.caf_top.specs.declared.answer.Due.{Due}
-use Rattle.caf_top.specs.declared.answer.Due.TheVariants.{Refused, Unreadable, TooLong}
-use Rattle.caf_top.specs.declared.job.Work.{Work}
-use Rattle.caf_top.specs.declared.refusal.Refusal.{Refusal}
 use Rattle.caf_top.specs.declared.refusal.Stop.{Stop}
 use Rattle.caf_top.specs.declared.refusal.Stop.TheVariants as stop
 

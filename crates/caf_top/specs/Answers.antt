@@ -38,11 +38,6 @@ pub record IsListing (p : Program) (due : Due) (journal : List Entry) (text : Li
   pub no_run : journal ≡ []
   pub is : due ≡ Done
 
--- what is wanted of a program that runs
-abbrev pub Wrote : Work → Program → Due → List Entry → List ℕ → Type 0
-Wrote (work.Run events) p due journal text = IsReport events p due journal text
-Wrote work.List p due journal text = IsListing p due journal text
-
 -- the line of a refusal
 pub record IsRefusal (told : Told) (due : Due) (journal : List Entry) (text : List ℕ) : Type 0 where
   pub line : text ≡ refusal_line told
@@ -60,10 +55,12 @@ IsTold fail.Failed name due journal text = (due ≡ Unreadable) × (journal ≡ 
 IsTold fail.TooLong name due journal text = (due ≡ TooLong) × (journal ≡ []) × (text ≡ codes "too long " ++ name ++ codes "\n")
 IsTold fail.Memory name due journal text = ⊥
 
--- what is wanted, unless a statement on this line doesn't run yet
-abbrev pub WroteUnless : Option ℕ → Work → Program → Due → List Entry → List ℕ → Type 0
-WroteUnless None w p due journal text = Wrote w p due journal text
-WroteUnless (Some line) w p due journal text = IsRefusal (line, codes "not yet") due journal text
+-- the report of a run, unless a statement on this line doesn't run yet
+abbrev pub RanUnless : Option ℕ → ℕ → Program → Due → List Entry → List ℕ → Type 0
+RanUnless None events p due journal text = IsReport events p due journal text
+RanUnless (Some line) events p due journal text = IsRefusal (line, codes "not yet") due journal text
 
+-- what is wanted of an accepted program
 abbrev pub CarriedOut : Work → Program → Due → List Entry → List ℕ → Type 0
-CarriedOut w p due journal text = WroteUnless (first_unbuilt p) w p due journal text
+CarriedOut (work.Run events) p due journal text = RanUnless (first_unbuilt p) events p due journal text
+CarriedOut work.List p due journal text = IsListing p due journal text

@@ -1,11 +1,10 @@
 -- What is due of a check: the source machine follows the choices of a trace.
-use Rattle.std.specs.Prelude.{◌≡◌, ◌≢◌, ◌⊎◌, ℕ, List, [], ◌++◌, codes, decimal}
+use Rattle.std.specs.Prelude.{◌≡◌, ◌⊎◌, ℕ, List, ◌++◌, codes, decimal}
 use Rattle.caf_base.specs.declared.summary.Summary.{Summary}
 use Rattle.caf_base.specs.declared.summary.Ending.{Ending}
 use Rattle.caf_base.specs.declared.summary.Ending.TheVariants as ending
 use Rattle.caf_check.specs.Checked.{Ends, IsRefusedAt}
 use Rattle.caf_journal.specs.Trace.{IsFirstBadLine}
-use Rattle.caf_journal.specs.declared.entry.Entry.{Entry}
 use Rattle.caf_program.specs.declared.program.Program.{Program}
 use Rattle.caf_report.specs.Report.{report_text}
 use Rattle.caf_top.specs.declared.answer.Due.{Due}

@@ -65,23 +65,26 @@ pub record Reports (events : ℕ) (e : Ending) (bytes : List ℕ) (journal : Lis
   pub ends : told.ending ≡ e
   pub report : text ≡ report_text told
 
--- the bytes are an accepted program that runs, and the text is the listing of a code which keeps the rules of a code and does
--- what the program says
+-- the bytes are an accepted program, and the text is the listing of a code which keeps the rules of a code and does what the
+-- program says
 pub record Lists (bytes : List ℕ) (journal : List Entry) (text : List ℕ) : Type 0 where
   pub program : Program
   pub sees : Sees bytes program
-  pub built : first_unbuilt program ≡ None
   pub code : Listing
   pub keeps : KeepsRules code
   pub compiled : Compiled program code
   pub listing : text ≡ listing_text code
   pub no_run : journal ≡ []
 
--- the bytes are no accepted program, or one that doesn't run yet, and the text tells of a fault that they have, or of the first
--- statement that doesn't run
-pub record Refuses (bytes : List ℕ) (journal : List Entry) (text : List ℕ) : Type 0 where
+-- The bytes are no accepted program, and a fault that they have is told; or, where a run was wanted, they are one that doesn't
+-- run yet, and the first statement that doesn't is told.
+abbrev pub IsRefused : Work → List ℕ → Told → Type 0
+IsRefused (work.Run events) bytes told = IsWrong bytes told ⊎ IsUnbuilt bytes told
+IsRefused work.List bytes told = IsWrong bytes told
+
+pub record Refuses (w : Work) (bytes : List ℕ) (journal : List Entry) (text : List ℕ) : Type 0 where
   pub told : Told
-  pub why : IsWrong bytes told ⊎ IsUnbuilt bytes told
+  pub why : IsRefused w bytes told
   pub line : text ≡ refusal_line told
   pub no_run : journal ≡ []
 
@@ -101,7 +104,7 @@ IsGiven w Done bytes journal text = IsDone w bytes journal text
 IsGiven w Trapped bytes journal text = Ends w ending.Trapped bytes journal text
 IsGiven w Stuck bytes journal text = Ends w ending.Stuck bytes journal text
 IsGiven w Spent bytes journal text = Ends w ending.Going bytes journal text
-IsGiven w Refused bytes journal text = Refuses bytes journal text
+IsGiven w Refused bytes journal text = Refuses w bytes journal text
 IsGiven w _ bytes journal text = ⊥
 
 -- ---- what is due to be written

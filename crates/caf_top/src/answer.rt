@@ -1,7 +1,7 @@
 ghost use Rattle.std.specs.Prelude.{◌≡◌, ◌≢◌, ◌≤◌, ◌<◌, ◌^◌, ◌++◌, ℕ, List, [], None, codes, length, IfOk, IsTrue};
 ghost use Rattle.caf_outside.specs.Texts.{Has};
 ghost use Rattle.caf_source.specs.Built.{is_program_built};
-ghost use Rattle.caf_top.specs.Answers.{CarriedOut, IsListing, IsRefusal, IsReport, IsStopped, IsTold, Wrote};
+ghost use Rattle.caf_top.specs.Answers.{CarriedOut, IsListing, IsRefusal, IsReport, IsStopped, IsTold, RanUnless};
 ghost use Rattle.caf_top.specs.Promise.{IsDue, IsGiven, Seen, due_of_ending, limit, seen_of};
 ghost use Rattle.caf_top.specs.Dues.{IsWantedDue, host_of};
 ghost use Rattle.caf_top.specs.Reading.{told_by};
@@ -91,7 +91,6 @@ fn reported(alloc: Global, a: &Accepted, events: u32) -> Result<Answer, Memory>
 
 /// The listing of a program's code.
 fn listed(alloc: Global, a: &Accepted) -> Result<Answer, Memory>
-    requires { IsTrue (is_program_built a.now) }
     ensures { IfOk result (λ answer. IsListing a.now answer.due answer.journal answer.text.items) }
 {
     let code = compile(alloc, a)?;
@@ -125,24 +124,23 @@ fn unbuilt(alloc: Global, line: u32) -> Result<Answer, Memory>
     stopped(alloc, &refused(alloc, line, "not yet"))
 }
 
-/// What is wanted of a program that runs.
-fn worked(alloc: Global, work: Work, a: &Accepted) -> Result<Answer, Memory>
-    requires { IsTrue (is_program_built a.now) }
-    ensures { IfOk result (λ answer. Wrote work a.now answer.due answer.journal answer.text.items) }
-{
-    match work {
-        Work::Run { events } => reported(alloc, a, events),
-        Work::List => listed(alloc, a),
-    }
-}
-
-/// What an accepted program gives.
-fn carried_out(alloc: Global, work: Work, a: &Accepted) -> Result<Answer, Memory>
-    ensures { IfOk result (λ answer. CarriedOut work a.now answer.due answer.journal answer.text.items) }
+/// The report of a run on one image, unless a statement doesn't run yet.
+fn ran(alloc: Global, a: &Accepted, events: u32) -> Result<Answer, Memory>
+    ensures { IfOk result (λ answer. RanUnless (first a.now) events a.now answer.due answer.journal answer.text.items) }
 {
     match first_unbuilt(a) {
         Some(line) => unbuilt(alloc, line),
-        None => worked(alloc, work, a),
+        None => reported(alloc, a, events),
+    }
+}
+
+/// What is wanted of an accepted program.
+fn carried_out(alloc: Global, work: Work, a: &Accepted) -> Result<Answer, Memory>
+    ensures { IfOk result (λ answer. CarriedOut work a.now answer.due answer.journal answer.text.items) }
+{
+    match work {
+        Work::Run { events } => ran(alloc, a, events),
+        Work::List => listed(alloc, a),
     }
 }
 

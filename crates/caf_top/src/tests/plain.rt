@@ -112,7 +112,10 @@ fn a_code_is_listed(rt: HostRuntime) -> Result<(), Fail> {
         alloc,
         &["list", "p"],
         waits,
-        (3, "refused: line 3: not yet\n"),
+        (
+            0,
+            "caf code 3\nobject 0 event 1 1 own\n0: push 1\n1: wait 0\n2: close\n3: halt\n",
+        ),
     )?;
     Ok(())
 }

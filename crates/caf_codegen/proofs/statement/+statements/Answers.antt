@@ -1,7 +1,8 @@
 use Rattle.std.proofs.Common.{◌≡◌, ◌+◌, ◌++◌, [], ◌∷◌, drop, length, sym, ap, ◌∙◌, arith, append_assoc, length-append}
 use Rattle.std.proofs.lemmas.Grind.{common_steps}
 use Rattle.std.proofs.lemmas.Result.{on_ok_weaker}
-use Rattle.caf_codegen.specs.StmtCode.{block, codes, do_code, guarded, sizes, stmt_code, texts_in}
+use Rattle.caf_codegen.specs.StmtCode.{block, codes, do_code, guarded, last_code, sizes, stmt_code, texts_in}
+use Rattle.caf_codegen.proofs.Parts.{statement_joined, texts_joined}
 use Rattle.caf_codegen.proofs.Patched.{block_step, code_If, do_joined, guarded_filled, guarded_go, if_filled, loop_filled, while_joined}
 use Rattle.caf_codegen.proofs.statement.+statements.Goals as goal
 
@@ -38,8 +39,8 @@ gen_loop-returns-clause-code t c =
     c.in_ok-put.ensures c.store.ensures c.in_ok-put-2.ensures (c.len-enter.ensures ∙ c.put-2.new.code.ok.0) c.in_ok-put-3.ensures (c.in_ok-top.ensures ∙ c.len.ensures ∙ c.put-3.new.code.ok.0)
     c.in_ok-gen_block.ensures.code c.in_ok-gen_turn.ensures (c.in_ok-out.ensures ∙ c.len-2.ensures ∙ c.gen_turn.new.code.ok.0)
 
-pub gen_statement-returns-in_ok-end-in-If-clause-code : goal.gen_statement-returns-in_ok-end-in-If-clause-code
-gen_statement-returns-in_ok-end-in-If-clause-code t c =
+pub gen_last-returns-in_ok-end-in-If-clause-code : goal.gen_last-returns-in_ok-end-in-If-clause-code
+gen_last-returns-in_ok-end-in-If-clause-code t c =
     let base = c.args.code.now.items in
     let texts = c.args.texts.now in
     let k = length texts in
@@ -47,40 +48,48 @@ gen_statement-returns-in_ok-end-in-If-clause-code t c =
     let second = c.gen_guarded.new.code.items in
     let j = length c.gen_guarded.new.texts in
     let more = c.in_ok-go-in-If.ensures.texts ∙ ap (λ l. texts ++ texts_in (codes l)) c.as_slice-in-If.ensures in
-    if_filled c.in-If.line c.in-If.condition c.in-If.block c.in-If.otherwise base first second c.gen_block.new.code.items c.in_ok-go-in-If.go c.in_ok-end-in-If.end k j c.in_ok-gen_value-in-If.ensures.code
+    if_filled c.args.start c.in-If.line c.in-If.condition c.in-If.block c.in-If.otherwise base first second c.gen_block.new.code.items c.in_ok-go-in-If.go c.in_ok-end-in-If.end k j c.in_ok-gen_value-in-If.ensures.code
     (c.in_ok-go-in-If.ensures.code ∙ ap (λ l. first ++ guarded (codes l) 0 (length first) k) c.as_slice-in-If.ensures)
     (c.in_ok-go-in-If.ensures.go ∙ ap (λ l. length first + 1 + sizes (codes l)) c.as_slice-in-If.ensures)
     (c.in_ok-gen_block-in-If.ensures.code ∙ ap (λ l. second ++ block (codes l) (length second) j) c.as_slice-in-If-2.ensures)
     (ap length more ∙ length-append texts (texts_in (codes c.in-If.block)))
     (c.in_ok-end-in-If.ensures ∙ c.len.ensures ∙ c.gen_block.new.code.ok.0)
-    ∙ ap (λ s. base ++ (stmt_code s).code (length base) k) (sym c.in-If.is)
+    ∙ ap (λ s. base ++ (last_code c.args.start s).code (length base) k) (sym c.in-If.is)
 
-pub gen_statement-returns-in_ok-end-in-If-clause-texts : goal.gen_statement-returns-in_ok-end-in-If-clause-texts
-gen_statement-returns-in_ok-end-in-If-clause-texts t c =
+pub gen_last-returns-in_ok-end-in-If-clause-texts : goal.gen_last-returns-in_ok-end-in-If-clause-texts
+gen_last-returns-in_ok-end-in-If-clause-texts t c =
     let texts = c.args.texts.now in
     let x = texts_in (codes c.in-If.block) in
     let y = texts_in (codes c.in-If.otherwise) in
     c.in_ok-gen_block-in-If.ensures.texts ∙ ap (λ l. c.gen_guarded.new.texts ++ texts_in (codes l)) c.as_slice-in-If-2.ensures
     ∙ ap (λ l. l ++ y) (c.in_ok-go-in-If.ensures.texts ∙ ap (λ l. texts ++ texts_in (codes l)) c.as_slice-in-If.ensures) ∙ append_assoc texts x y
-    ∙ ap (λ k. texts ++ k.texts) (sym (code_If c.in-If.line c.in-If.condition c.in-If.block c.in-If.otherwise)) ∙ ap (λ s. texts ++ (stmt_code s).texts) (sym c.in-If.is)
+    ∙ ap (λ k. texts ++ k.texts) (sym (code_If c.args.start c.in-If.line c.in-If.condition c.in-If.block c.in-If.otherwise)) ∙ ap (λ s. texts ++ (last_code c.args.start s).texts) (sym c.in-If.is)
 
-pub gen_statement-returns-in_ok-gen_bounds-in-Do-clause-code : goal.gen_statement-returns-in_ok-gen_bounds-in-Do-clause-code
-gen_statement-returns-in_ok-gen_bounds-in-Do-clause-code t c =
+pub gen_last-returns-in_ok-gen_bounds-in-Do-clause-code : goal.gen_last-returns-in_ok-gen_bounds-in-Do-clause-code
+gen_last-returns-in_ok-gen_bounds-in-Do-clause-code t c =
     let base = c.args.code.now.items in
     let k = length c.args.texts.now in
     let first = c.gen_bounds.new.code.items in
     on_ok_weaker c.gen_loop.result
-    (λ e. do_joined c.in-Do.line c.in-Do.variable c.in-Do.first c.in-Do.last c.in-Do.step c.in-Do.body base first c.gen_loop.new.code.items k c.in_ok-gen_bounds-in-Do.ensures
+    (λ e. do_joined c.args.start c.in-Do.line c.in-Do.variable c.in-Do.first c.in-Do.last c.in-Do.step c.in-Do.body base first c.gen_loop.new.code.items k c.in_ok-gen_bounds-in-Do.ensures
     (e ∙ ap (λ l. first ++ (do_code c.in-Do.variable [] (codes l)).code (length first) k) c.as_slice-in-Do.ensures)
-    ∙ ap (λ s. base ++ (stmt_code s).code (length base) k) (sym c.in-Do.is))
+    ∙ ap (λ s. base ++ (last_code c.args.start s).code (length base) k) (sym c.in-Do.is))
     c.gen_loop.ensures.code
 
-pub gen_statement-returns-in_ok-gen_guarded-in-While-clause-code : goal.gen_statement-returns-in_ok-gen_guarded-in-While-clause-code
-gen_statement-returns-in_ok-gen_guarded-in-While-clause-code t c =
+pub gen_last-returns-in_ok-gen_guarded-in-While-clause-code : goal.gen_last-returns-in_ok-gen_guarded-in-While-clause-code
+gen_last-returns-in_ok-gen_guarded-in-While-clause-code t c =
     let base = c.args.code.now.items in
     let k = length c.args.texts.now in
     let first = c.gen_value-in-While.new.code.items in
-    while_joined c.in-While.line c.in-While.condition c.in-While.body base first c.gen_guarded-in-While.new.code.items c.in_ok-start-in-While.start k
-    (c.in_ok-start-in-While.ensures ∙ c.len-in-While.ensures ∙ c.args.code.now.ok.0) c.in_ok-gen_value-in-While.ensures.code
-    (c.in_ok-gen_guarded-in-While.ensures.code ∙ ap (λ l. first ++ guarded (codes l) c.in_ok-start-in-While.start (length first) k) c.as_slice-in-While.ensures)
-    ∙ ap (λ s. base ++ (stmt_code s).code (length base) k) (sym c.in-While.is)
+    while_joined c.in-While.line c.in-While.condition c.in-While.body base first c.gen_guarded-in-While.new.code.items c.args.start k c.in_ok-gen_value-in-While.ensures.code
+    (c.in_ok-gen_guarded-in-While.ensures.code ∙ ap (λ l. first ++ guarded (codes l) c.args.start (length first) k) c.as_slice-in-While.ensures)
+    ∙ ap (λ s. base ++ (last_code c.args.start s).code (length base) k) (sym c.in-While.is)
+
+pub gen_statement-returns-clause-code : goal.gen_statement-returns-clause-code
+gen_statement-returns-clause-code t c =
+    on_ok_weaker c.gen_last.result
+    (statement_joined c.args.statement.now c.args.code.now.items c.ask_statement.new.code.items c.gen_last.new.code.items c.in_ok-start.start (length c.args.texts.now) (c.in_ok-start.ensures ∙ c.len.ensures ∙ c.args.code.now.ok.0) c.in_ok-ask_statement.ensures)
+    c.gen_last.ensures.code
+
+pub gen_statement-returns-clause-texts : goal.gen_statement-returns-clause-texts
+gen_statement-returns-clause-texts t c = on_ok_weaker c.gen_last.result (texts_joined c.args.statement.now c.args.texts.now c.gen_last.new.texts c.in_ok-start.start) c.gen_last.ensures.texts
