@@ -113,7 +113,8 @@ opened=$(printf '(%.0s' $(seq 101))
 closed=$(printf ')%.0s' $(seq 101))
 refuses 2 'deep' "program p; x = &\n${opened}1 &\n$closed\nend"
 refuses 3 'undeclared x' "program p\nimplicit none\nx = 1; end program\n"
-refuses 4 'not yet' 'program p\nevent :: e\nprint *, 1\nevent_wait(e)\nprint *, 2\nend program\n'
+printf 'program p\nevent :: e\nprint *, 1\nevent_wait(e)\nprint *, 2\nend program\n' >waits.f90
+wants 3 'refused: line 4: not yet' step waits.f90 1 1 100
 
 # closed or full outputs
 for output in '>&-' '>/dev/full'; do
