@@ -1,6 +1,8 @@
-//! Tables of whole texts: tests that carry traces through the top call, and that print each form of the language and read it
-//! again.
+//! Tables of whole texts: tests that carry traces through the top call, that print each form of the language and read it
+//! again, and that run the code of programs beside their trees.
 #![tactic(auto)]
 
+#[cfg(test)]
+mod agreement;
 #[cfg(test)]
 mod tests;

@@ -1,0 +1,4 @@
+use Rattle.caf_trials.proofs.agreement.story.main_pair.Goals as goal
+
+pub returns-clause-sound : goal.returns-clause-sound
+returns-clause-sound c = record { memory = c.in_ok-memory.ensures; task = c.in_ok-task.ensures.sound c.in_ok-memory.memory.images }
