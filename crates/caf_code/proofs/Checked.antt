@@ -3,10 +3,9 @@ use Rattle.std.proofs.Common.{◌≡◌, ℕ, zero, suc, ◌+◌, ◌<◌, List,
 use Rattle.std.specs.Prelude.{slice_get, slice_index_or, unwrap_or}
 use Rattle.std.specs.List.{AllByRecursion}
 use Rattle.std.proofs.lemmas.Option.{none-some}
-use Rattle.caf_code.specs.Examples.{in_rows}
 use Rattle.caf_code.specs.Rules.{IsRight, KeepsRules, LeadOn}
 use Rattle.caf_code.specs.Shapes.{Part, Main, Sub, Shape, leads, start_shape}
-use Rattle.caf_code.specs.Tables.{Agree, EachInstr, EachRow, EachStart, EachSub, KeepsByTables, Leads, Row}
+use Rattle.caf_code.specs.Tables.{Agree, EachInstr, EachRow, EachStart, EachSub, KeepsByTables, Leads, Row, in_rows}
 use Rattle.caf_code.specs.declared.instr.Instr.{Instr}
 use Rattle.caf_code.specs.declared.listing.Listing.{Listing}
 use Rattle.caf_code.specs.declared.listing.SubCode.{SubCode}

@@ -1,5 +1,5 @@
 -- What keeps a task one that the code can run.
-use Rattle.std.specs.Prelude.{◌≡◌, ◌<◌, ℕ, List, length, Option, Some, ℤ, IsTrue, is_some, slice_get}
+use Rattle.std.specs.Prelude.{◌≡◌, ◌<◌, ℕ, Bool, true, false, List, length, Option, Some, ℤ, IsTrue, is_some, slice_get}
 use Rattle.caf_base.specs.ImageMemory.{ImageMemory}
 use Rattle.caf_base.specs.Start.{start_memory}
 use Rattle.caf_base.specs.declared.effect.Effect.{Effect}
@@ -18,6 +18,12 @@ abbrev pub KeepsTask : Effect → Type 0 → Type 0
 KeepsTask (effect.Ends event) X = Unit {0}
 KeepsTask (effect.Traps trap) X = Unit {0}
 KeepsTask _ X = X
+
+-- an effect behind which a task is over
+abbrev pub ends_run : Effect → Bool
+ends_run (effect.Ends event) = true
+ends_run (effect.Traps trap) = true
+ends_run _ = false
 
 -- the tasks of a code begin as ones that it can run, and stay so, and so does the memory
 pub record KeepsSound (code : Listing) : Type 0 where

@@ -11,7 +11,6 @@ pub mod Shapes
 pub mod Rules
 pub mod Sound
 pub mod Listing
-pub mod Examples
 pub mod Whole
 pub mod Kept
 pub mod Tables

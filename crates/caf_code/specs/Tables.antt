@@ -1,8 +1,7 @@
 -- A code whose shapes stand in rows, one for each part, keeps the rules if each row and each instruction does.
 use Rattle.std.specs.Prelude.{◌≡◌, ℕ, suc, List, [], ◌∷◌, Option, Some, None, IsTrue, slice_index_or}
 use Rattle.std.specs.List.{AllByRecursion, list_all}
-use Rattle.caf_code.specs.Examples.{in_rows}
-use Rattle.caf_code.specs.Rules.{IsRight, KeepsRules, LeadOn, has_last_index}
+use Rattle.caf_code.specs.Rules.{IsRight, KeepsRules, LeadOn, Shapes, has_last_index}
 use Rattle.caf_code.specs.Shapes.{Part, Main, Sub, Shape, leads, start_shape}
 use Rattle.caf_code.specs.declared.instr.Instr.{Instr}
 use Rattle.caf_code.specs.declared.listing.Listing.{Listing}
@@ -11,6 +10,15 @@ use Rattle.caf_code.specs.declared.listing.SubCode.{SubCode}
 -- the shapes at the addresses of a part
 abbrev pub Row : Type 0
 Row = List (Option Shape)
+
+-- a shape with so many operands, loops and open finishes
+abbrev pub at_height : ℕ → ℕ → ℕ → Option Shape
+at_height stack loops finishes = Some (record { stack = stack; held = 0; loops = loops; listed = []; outs = 0; finishes = finishes })
+
+-- the shapes of main, and those of each subroutine
+abbrev pub in_rows : Row → List Row → Shapes
+in_rows main subs Main a = slice_index_or main a None
+in_rows main subs (Sub f) a = slice_index_or (slice_index_or subs f []) a None
 
 -- what holds of each shape of a row with the instruction beside it, where the first address is this
 abbrev pub EachRow : (ℕ → Instr → Shape → Type 0) → ℕ → Row → List Instr → Type 0

@@ -20,8 +20,5 @@ pub use instr::{
 };
 pub use law::{steps_lack_nothing, tables_show_rules, tasks_stay_sound};
 pub use listing::{Listing, SubCode};
-pub use print::print_listing;
+pub use print::{print_listing, text_of};
 pub use task::{CopyOut, CopyTarget, Listed, Loop, Wait};
-
-#[cfg(test)]
-mod tests;

@@ -43,8 +43,8 @@ pub fn print_listing(alloc: Global, code: &Code) -> Result<Vec<u8>, Memory>
     text_of(alloc, code.listing())
 }
 
-/// The text of any listing.
-pub(crate) fn text_of(alloc: Global, listing: &Listing) -> Result<Vec<u8>, Memory>
+/// The text of any listing, whether or not it keeps the rules of a code.
+pub fn text_of(alloc: Global, listing: &Listing) -> Result<Vec<u8>, Memory>
     ensures { IfOk result (λ text. text.items ≡ listing_text listing.now) }
 {
     let mut text = Vec::from_slice(alloc, b"caf code 3\n")?;

@@ -21,6 +21,3 @@ mod statement;
 
 pub use law::made_codes_do_what_programs_say;
 pub use program::compile;
-
-#[cfg(test)]
-mod tests;

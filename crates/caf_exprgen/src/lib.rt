@@ -11,6 +11,3 @@ mod law;
 pub use ask::{gen_reads, place_form};
 pub use expr::{gen_expr, named};
 pub use law::codes_leave_values;
-
-#[cfg(test)]
-mod tests;

@@ -7,8 +7,6 @@
 mod cursor;
 mod fault;
 pub mod grammar;
-#[cfg(test)]
-mod tests;
 mod tokens;
 
 pub use cursor::{Cursor, MOST_LEVELS, expr};

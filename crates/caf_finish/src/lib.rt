@@ -26,8 +26,3 @@ pub use desk::FinishDesk;
 pub use event::FinishEvent;
 pub use law::{accounts_follow_the_events, kept_lists_are_sound};
 pub use verdict::Audit;
-
-#[cfg(test)]
-mod audit_tests;
-#[cfg(test)]
-mod tests;

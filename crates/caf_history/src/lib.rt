@@ -11,6 +11,3 @@ mod index;
 pub use arrival::Arrival;
 pub use arrivals::Arrivals;
 pub use finishes::FinishesLeft;
-
-#[cfg(test)]
-mod tests;

@@ -18,6 +18,3 @@ pub use read::read_trace;
 
 /// The most entries of a journal that has a trace.
 pub const MAX_ENTRIES: usize = 1_000_000;
-
-#[cfg(test)]
-mod tests;

@@ -20,6 +20,3 @@ mod written;
 pub use fault::KindFault;
 pub use law::{a_unit_means_one_program, what_is_meant_keeps_the_rules};
 pub use unit::resolve;
-
-#[cfg(test)]
-mod tests;

@@ -10,8 +10,6 @@ mod law;
 mod line;
 mod piece;
 mod table;
-#[cfg(test)]
-mod tests;
 mod text;
 mod token;
 

@@ -17,6 +17,3 @@ pub use caf_base::Memory;
 pub use line_fault::LineFault;
 pub use memory::ImageMemory;
 pub use section_fault::SectionFault;
-
-#[cfg(test)]
-mod tests;

@@ -8,8 +8,6 @@ mod block;
 mod declaration;
 mod law;
 mod program;
-#[cfg(test)]
-mod tests;
 
 pub use law::tokens_spell_at_most_one_unit;
 pub use program::unit;

@@ -8,8 +8,6 @@ mod open;
 mod operation;
 mod pending;
 mod tally;
-#[cfg(test)]
-mod tests;
 
 pub use finish::{encloses, same_name};
 pub use operation::Operation;

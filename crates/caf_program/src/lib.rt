@@ -23,6 +23,3 @@ pub use program::{DummyR, Intent, Program, SubR, ValueKind};
 pub use read::each_held_value_has_its_read;
 pub use stmt::{LoopVariableR, StmtR, copy_block};
 pub use view::View;
-
-#[cfg(test)]
-mod tests;

@@ -9,6 +9,3 @@ mod solo;
 
 pub use phase::Phase;
 pub use run::{Run, run_alone};
-
-#[cfg(test)]
-mod tests;

@@ -35,6 +35,3 @@ pub use runs::{Certified, certify};
 pub use section::Taken;
 pub use state::{Image, Live};
 pub use stepped::Stepped;
-
-#[cfg(test)]
-mod tests;

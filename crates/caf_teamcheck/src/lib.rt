@@ -15,6 +15,3 @@ mod site;
 
 pub use check::{a_fault_breaks_a_rule, check_ships};
 pub use fault::ShipFault;
-
-#[cfg(test)]
-mod tests;

@@ -23,6 +23,3 @@ pub use job::is_built;
 pub use law::{a_text_means_one_program, a_wrong_text_means_no_program};
 pub use main_call::caf_main;
 pub use serial::caf_serial;
-
-#[cfg(test)]
-mod tests;

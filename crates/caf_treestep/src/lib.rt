@@ -29,6 +29,3 @@ pub use task::{Frame, Task, Wait};
 pub use task_step::step_task;
 pub use todo::{CopyOut, Target, Todo};
 pub use waits::team_world;
-
-#[cfg(test)]
-mod tests;

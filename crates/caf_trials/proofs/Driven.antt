@@ -12,12 +12,11 @@ use Rattle.caf_base.specs.declared.effect.Effect.TheVariants as effect
 use Rattle.caf_base.specs.declared.object.Object.{Object}
 use Rattle.caf_base.specs.declared.team.Team.{Team}
 use Rattle.caf_base.specs.declared.trap.Trap.{Trap}
-use Rattle.caf_code.specs.Kept.{KeepsTask}
+use Rattle.caf_code.specs.Kept.{KeepsTask, ends_run}
 use Rattle.caf_code.specs.Sound.{IsSound, IsSoundTeam}
 use Rattle.caf_code.specs.Task.{Task}
 use Rattle.caf_code.specs.declared.listing.Listing.{Listing}
 use Rattle.caf_treestep.specs.Placeable.{IsPlaceable}
-use Rattle.caf_vm.specs.Examples.{ends_run}
 
 posts_in : (code : Listing) (t : Task) (m : ImageMemory) (o : ℕ) (x : Option Object) (index : ℤ) (posts : ℕ) → IsSound code t m → IsSound code t (with_posts_in m o x index posts)
 posts_in code t m o None index posts sound = sound

@@ -1,7 +1,5 @@
 pub mod Begins
-pub mod Cases
 pub mod Copied
-pub mod Driven
 pub mod Ended
 pub mod Front
 pub mod Joined
@@ -11,7 +9,6 @@ pub mod Ready
 pub mod Saved
 pub mod Settled
 pub mod Shaped
-pub mod TrapsKept
 pub mod Turn
 pub mod Wanted
 pub mod Within

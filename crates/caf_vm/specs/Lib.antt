@@ -2,12 +2,10 @@ pub mod Begun
 pub mod Blocked
 pub mod Calls
 pub mod Draft
-pub mod Examples
 pub mod Frames
 pub mod Left
 pub mod Ready
 pub mod Run
 pub mod Shape
 pub mod Task
-pub mod Traps
 pub mod Went

@@ -24,8 +24,3 @@ pub use need::blocked;
 pub use past::{answer, leave, part};
 pub use step::statement;
 pub use task::Task;
-
-#[cfg(test)]
-mod tests;
-#[cfg(test)]
-mod traps;

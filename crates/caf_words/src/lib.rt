@@ -11,6 +11,3 @@ mod sort;
 pub use asked::{Asked, Order};
 pub use fault::WordFault;
 pub use read::read_words;
-
-#[cfg(test)]
-mod tests;

@@ -3,7 +3,7 @@
 ghost use Rattle.std.specs.Prelude.{◌≡◌, false, IfOk, OnOk};
 ghost use Rattle.caf_code.specs.Sound.{IsSound, IsSoundTeam, is_close as closes, stands_at_end};
 ghost use Rattle.caf_code.specs.Whole.{IsSettled};
-ghost use Rattle.caf_vm.specs.Examples.{ends_run};
+ghost use Rattle.caf_code.specs.Kept.{ends_run};
 
 use caf_base::{Effect, FenceClear, Memory, Need, Team};
 use caf_code::{Code, Instr, Wait};

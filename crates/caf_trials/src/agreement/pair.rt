@@ -4,7 +4,7 @@ ghost use Rattle.std.specs.Prelude.{◌≡◌, ◌≢◌, ◌<◌, ℕ, ℤ, Lis
 ghost use Rattle.caf_code.specs.Sound.{IsSound, IsSoundTeam};
 ghost use Rattle.caf_code.specs.Whole.{IsSettled};
 ghost use Rattle.caf_treestep.specs.Placeable.{IsPlaceable};
-ghost use Rattle.caf_vm.specs.Examples.{ends_run};
+ghost use Rattle.caf_code.specs.Kept.{ends_run};
 
 use super::by_code::{answer_code, leave_code, part_code, post_code, step_code};
 use super::by_tree::{answer_tree, leave_tree, part_tree, post_tree};

@@ -1,9 +1,0 @@
-use Rattle.std.proofs.Common.{◌≡◌, ◌≤◌}
-use Rattle.caf_source.specs.Kept.{CanGoOn}
-use Rattle.caf_source.proofs.tests.run.Given as goal
-
-abbrev pub invariant-loop-step : goal.invariant-loop-step
-invariant-loop-step l = record {
-  ready : CanGoOn l.state;
-  count : l.state.done ≤ l._step;
-}
