@@ -6,7 +6,8 @@ ghost use Rattle.caf_exprparse.specs.Told as token;
 ghost use Rattle.caf_simpleparse.specs.Reader as r;
 
 use crate::ahead::second_is_sign;
-use crate::parts::{Parts, each_key_once};
+use crate::beside::{closed, with_keys_once};
+use crate::parts::Parts;
 use caf_exprparse::{ParseFault, Tokens};
 use caf_lexer::{Sign, What, Word};
 use caf_tree::stmt::{Key, Section, Simple};
@@ -60,9 +61,9 @@ fn spawn(parts: Parts, c: &mut Tokens<'_>) -> Result<Simple, ParseFault>
 {
     c.word(Word::Spawn)?;
     let done = parts.perhaps_event(c)?;
-    let subroutine = c.name(parts.alloc)?;
-    let arguments = parts.argument_list(c)?;
-    let place = parts.place(c)?;
+    let named = parts.beside_name(done, c)?;
+    let shipped = parts.beside_arguments(named, c)?;
+    let (((done, subroutine), arguments), place) = parts.beside_place(shipped, c)?;
     Ok(Simple::Spawn {
         done,
         subroutine,
@@ -95,18 +96,15 @@ fn copied(parts: Parts, c: &mut Tokens<'_>) -> Result<((Section, Section), Items
     c.word(Word::CopyAsync)?;
     c.sign(Sign::LeftParenthesis)?;
     let copied = parts.copied_inside(c)?;
-    c.sign(Sign::RightParenthesis)?;
-    Ok(copied)
+    closed(copied, c)
 }
 
 #[tactic(auto, unfolding(crate::specs::Reader::copy))]
 fn copy(parts: Parts, c: &mut Tokens<'_>) -> Result<Simple, ParseFault>
     ensures { Reads (r.copy parts.depth c.old) result c.new }
 {
-    let ((destination, source), keys) = copied(parts, c)?;
-    if !each_key_once(keys.as_slice()) {
-        return Err(ParseFault::Syntax(c.fault_line()));
-    }
+    let copied = copied(parts, c)?;
+    let ((destination, source), keys) = with_keys_once(copied, c)?;
     Ok(Simple::Copy {
         destination,
         source,
@@ -129,8 +127,8 @@ fn split(parts: Parts, c: &mut Tokens<'_>) -> Result<Simple, ParseFault>
 {
     c.word(Word::TeamSplit)?;
     c.sign(Sign::LeftParenthesis)?;
-    let (((team, colour), key), new) = parts.split_inside(c)?;
-    c.sign(Sign::RightParenthesis)?;
+    let split = parts.split_inside(c)?;
+    let (((team, colour), key), new) = closed(split, c)?;
     Ok(Simple::Split {
         team,
         colour,

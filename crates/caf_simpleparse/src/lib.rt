@@ -6,6 +6,7 @@
 
 mod action;
 pub mod ahead;
+mod beside;
 mod parts;
 
 pub use action::simple;

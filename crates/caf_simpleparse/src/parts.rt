@@ -10,6 +10,7 @@ ghost use Rattle.caf_exprparse.specs.Told as token;
 ghost use Rattle.caf_simpleparse.specs.Choices as choices;
 ghost use Rattle.caf_simpleparse.specs.Reader as r;
 
+use crate::beside::closed;
 use caf_base::Text;
 use caf_exprparse::grammar::{expression, place, subscript, variable};
 use caf_exprparse::{ParseFault, Tokens};
@@ -90,7 +91,7 @@ impl Parts {
         self.perhaps_value(c)
     }
 
-    fn perhaps_range_end(self, c: &mut Tokens<'_>) -> Result<Option<Option<Expr>>, ParseFault>
+    pub fn perhaps_range_end(self, c: &mut Tokens<'_>) -> Result<Option<Option<Expr>>, ParseFault>
         ensures { Reads (reading.optional (r.range_end self.depth) c.old) result c.new }
     {
         let before = c.mark();
@@ -112,9 +113,9 @@ impl Parts {
             return Ok(Range::Between(None, self.range_end(c)?));
         }
         let first = self.value(c)?;
-        match self.perhaps_range_end(c)? {
-            None => Ok(Range::Element(first)),
-            Some(last) => Ok(Range::Between(Some(first), last)),
+        match self.beside_range_end(first, c)? {
+            (first, None) => Ok(Range::Element(first)),
+            (first, Some(last)) => Ok(Range::Between(Some(first), last)),
         }
     }
 
@@ -132,11 +133,10 @@ impl Parts {
     {
         c.sign(Sign::LeftParenthesis)?;
         let range = self.range_inside(c)?;
-        c.sign(Sign::RightParenthesis)?;
-        Ok(range)
+        closed(range, c)
     }
 
-    fn perhaps_range(self, c: &mut Tokens<'_>) -> Result<Option<Range>, ParseFault>
+    pub fn perhaps_range(self, c: &mut Tokens<'_>) -> Result<Option<Range>, ParseFault>
         ensures { Reads (reading.optional (token.in_parentheses (reading.inside r.range self.depth)) c.old) result c.new }
     {
         let before = c.mark();
@@ -150,7 +150,7 @@ impl Parts {
         }
     }
 
-    fn perhaps_place(self, c: &mut Tokens<'_>) -> Result<Option<Place<Expr>>, ParseFault>
+    pub fn perhaps_place(self, c: &mut Tokens<'_>) -> Result<Option<Place<Expr>>, ParseFault>
         ensures { Reads (reading.optional (e.place (e.inner self.depth)) c.old) result c.new }
     {
         let before = c.mark();
@@ -184,8 +184,8 @@ impl Parts {
         ensures { Reads (r.section self.depth c.old) result c.new }
     {
         let name = c.name(self.alloc)?;
-        let range = self.perhaps_range(c)?;
-        let place = self.perhaps_place(c)?;
+        let ranged = self.beside_range(name, c)?;
+        let ((name, range), place) = self.beside_perhaps_place(ranged, c)?;
         let range = match range {
             None => Range::Whole,
             Some(range) => range,
@@ -202,7 +202,7 @@ impl Parts {
         Ok(OwnEvent { name, subscript })
     }
 
-    fn next_section(self, c: &mut Tokens<'_>) -> Result<Section, ParseFault>
+    pub fn next_section(self, c: &mut Tokens<'_>) -> Result<Section, ParseFault>
         ensures { Reads (choices.next_behind (r.section self.depth) c.old) result c.new }
     {
         c.sign(Sign::Comma)?;
@@ -263,8 +263,7 @@ impl Parts {
             return Ok(Items::new(self.alloc));
         }
         let arguments = self.arguments_inside(c)?;
-        c.sign(Sign::RightParenthesis)?;
-        Ok(arguments)
+        closed(arguments, c)
     }
 
     /// A list within parentheses, or nothing.
@@ -325,7 +324,7 @@ impl Parts {
         self.key(c)
     }
 
-    fn more_keys(self, c: &mut Tokens<'_>) -> Result<Items<Key>, ParseFault>
+    pub fn more_keys(self, c: &mut Tokens<'_>) -> Result<Items<Key>, ParseFault>
         ensures { Reads (reading.many (choices.next_behind (r.key self.depth)) c.old) result c.new }
     {
         let mut found = Items::new(self.alloc);
@@ -347,8 +346,7 @@ impl Parts {
         ensures { Reads (reading.both (r.section self.depth) (choices.next_behind (r.section self.depth)) c.old) result c.new }
     {
         let destination = self.section(c)?;
-        let source = self.next_section(c)?;
-        Ok((destination, source))
+        self.beside_next_section(destination, c)
     }
 
     #[tactic(auto, unfolding(crate::specs::Reader::copy_in))]
@@ -356,8 +354,7 @@ impl Parts {
         ensures { Reads (r.copy_in self.depth c.old) result c.new }
     {
         let sections = self.sections(c)?;
-        let keys = self.more_keys(c)?;
-        Ok((sections, keys))
+        self.beside_keys(sections, c)
     }
 
     #[tactic(auto, unfolding(crate::specs::Reader::split_in))]
@@ -365,11 +362,9 @@ impl Parts {
         ensures { Reads (r.split_in self.depth c.old) result c.new }
     {
         let team = c.team(self.alloc)?;
-        let colour = self.next_value(c)?;
-        let key = self.next_value(c)?;
-        c.sign(Sign::Comma)?;
-        let name = c.name(self.alloc)?;
-        Ok((((team, colour), key), name))
+        let coloured = self.beside_next_value(team, c)?;
+        let keyed = self.beside_next_value(coloured, c)?;
+        self.beside_next_name(keyed, c)
     }
 
     fn event_inside(self, c: &mut Tokens<'_>) -> Result<Variable<Boxed<Expr>>, ParseFault>
@@ -420,8 +415,7 @@ impl Parts {
     {
         c.sign(Sign::LeftParenthesis)?;
         let event = self.event_inside(c)?;
-        c.sign(Sign::RightParenthesis)?;
-        Ok(event)
+        closed(event, c)
     }
 
     /// `(event)`, of this image.
@@ -430,8 +424,7 @@ impl Parts {
     {
         c.sign(Sign::LeftParenthesis)?;
         let event = self.own_event_inside(c)?;
-        c.sign(Sign::RightParenthesis)?;
-        Ok(event)
+        closed(event, c)
     }
 
     /// `(event)` or nothing.
@@ -523,8 +516,7 @@ impl Parts {
             return Ok(Items::new(self.alloc));
         }
         let fences = self.fences_inside(c)?;
-        c.sign(Sign::RightParenthesis)?;
-        Ok(fences)
+        closed(fences, c)
     }
 
     fn fences_once(self, c: &mut Tokens<'_>) -> Result<Items<Fence>, ParseFault>
